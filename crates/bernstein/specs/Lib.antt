@@ -1,0 +1,5 @@
+pub mod Three
+pub mod Numbers
+pub mod Points
+pub mod Places
+pub mod Claims

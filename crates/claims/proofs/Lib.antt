@@ -1,0 +1,4 @@
+pub mod Calls
+pub mod Demands
+pub mod Starred
+pub mod Caller

@@ -1,0 +1,1 @@
+// The customer's demands, stated in specs/ and proved in proofs/. There is no code here.

@@ -1,0 +1,8 @@
+pub mod Tests
+pub mod Layouts
+pub mod Stepping
+pub mod TermTests
+pub mod InOrder
+pub mod Walking
+pub mod Filling
+pub mod Answering

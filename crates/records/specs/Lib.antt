@@ -1,0 +1,4 @@
+pub mod Reads
+pub mod Runs
+pub mod Visits
+pub mod Tables

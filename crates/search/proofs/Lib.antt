@@ -1,0 +1,10 @@
+pub mod Lists
+pub mod Machine
+pub mod Search
+pub mod Claims
+pub mod Counts
+pub mod Lockstep
+pub mod Slots
+pub mod Lent
+pub mod Cases
+pub mod Continued

@@ -1,0 +1,11 @@
+pub mod Measures
+pub mod Fitting
+pub mod Sounds
+pub mod Judging
+pub mod Standing
+pub mod Turning
+pub mod Driving
+pub mod Keeping
+pub mod Starting
+pub mod Slotting
+pub mod Becoming

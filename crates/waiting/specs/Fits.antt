@@ -1,0 +1,39 @@
+-- What holds of every slot that a run from a start reaches: its length, exact numbers within M, cuts within the depths; rational points, common zeros of the
+-- polynomials, and a point in a box (01, "The numbers of a box"). Definitions only.
+use mathlib.Core.Path.{_≡_}
+use mathlib.Core.List.{List}
+use Prim.Native.Nat.{ℕ, _^_, _≤_, _<_}
+use lib.IntN.{ℤ, pos}
+use lib.ListN.{length}
+use lib.Signed.{_<ℤ_}
+use Rattle.bernstein.specs.Three.{Direction, Three, _!_}
+use Rattle.bernstein.specs.Numbers.{Box, Stored}
+use Rattle.bernstein.specs.Points.{Within, value}
+use Rattle.boxes.specs.declared.head.Head.{Head}
+use Rattle.boxes.specs.Heads.{degrees, depths, width}
+use Rattle.patch.specs.Slots.{box-in, numbers, polynomial, ExactSlot}
+
+-- of a slot, in a run of the system with the head h and the coefficients cs
+pub record Fit (h : Head) (cs l : List ℤ) : Type 0 where
+  pub long : length l ≡ width h
+  pub exact : ExactSlot h (polynomial h cs) l
+  pub stored : (t : ℕ) → t < h .m → Stored (degrees h) (polynomial h (numbers l) t)
+  pub cuts-high : (r : Direction) → (box-in l ! r) .cuts ≤ depths h ! r
+  pub position-high : (r : Direction) → (box-in l ! r) .position < 2 ^ (box-in l ! r) .cuts
+
+-- one whole numerator per direction over a common whole q above 0
+pub record Point : Type 0 where
+  pub numerators : Three ℤ
+  pub q : ℤ
+  pub above-zero : pos 0 <ℤ q
+
+abbrev pub LiesIn : Point → Box → Type 0
+LiesIn x b = Within b (x .numerators) (x .q)
+
+-- all polynomials are zero there
+pub record CommonZero (h : Head) (cs : List ℤ) (x : Point) : Type 0 where
+  pub zeros : (t : ℕ) → t < h .m → value (degrees h) (x .numerators) (x .q) (polynomial h cs t) ≡ pos 0
+
+-- every rational point of b lies in c
+abbrev pub InsideBox : Box → Box → Type 0
+InsideBox b c = (x : Point) → LiesIn x b → LiesIn x c

@@ -1,0 +1,75 @@
+-- The check of a state against the head, the waiting store and the list's length (01, "Refusal numbers", Run: 4, 9, 10): once as the chain of tests that
+-- `check` makes, once as a record of facts. Definitions, and the statement that the two agree.
+use mathlib.Core.Path.{_≡_}
+use mathlib.Core.Bool.{Bool, true, _&&_}
+use mathlib.Core.List.{List}
+use mathlib.Core.Logic.{_↔_}
+use Prim.Native.Nat.{ℕ, zero, suc, _+_, _-_, _*_, _^_, _≤_, _<_}
+use lib.Dec.{leb, ltb}
+use lib.IntN.{ℤ, pos, natAbs}
+use lib.ListN.{length}
+use lib.Signed.{leZ}
+use Rattle.bernstein.specs.Three.{Direction, _!_}
+use Rattle.boxes.specs.declared.refusal.Refusal.{Refusal}
+use Rattle.boxes.specs.declared.head.Head.{Head}
+use Rattle.boxes.specs.declared.head.Checked.{Checked}
+use Rattle.boxes.specs.Directions.{each}
+use Rattle.boxes.specs.Heads.{depths, depth, width, Limits, checked}
+use Rattle.patch.specs.Slots.{at, column, box-in, numbers, SpanFits}
+use Rattle.patch.specs.Rules.{every, within}
+use Rattle.search.specs.Lent.{slot}
+use Rattle.boxes.specs.Chain.{test, _then_}
+use Rattle.waiting.specs.declared.state.State.{State}
+
+-- M
+abbrev pub most : ℕ
+most = 2 ^ 62 - 1
+
+-- the cuts of a slot's box, in all
+abbrev pub cuts : List ℤ → ℕ
+cuts l = box-in l .x₁ .cuts + box-in l .x₂ .cuts + box-in l .x₃ .cuts
+
+-- (D + 1) × (6 + m × S)
+abbrev pub needed : Head → ℕ
+needed h = suc (depth h) * width h
+
+-- ---- as tests
+-- a bad s or k: s above g, k not below 2^s, a negative one
+unfoldable pub span-ok : ℕ → ℤ → ℤ → Bool
+span-ok g s k = leZ (pos 0) s && leb (natAbs s) g && leZ (pos 0) k && ltb (natAbs k) (2 ^ natAbs s)
+
+-- the slot l, as slot p
+unfoldable pub slot-ok : Head → ℕ → List ℤ → Bool
+slot-ok h p l = each (λ r. span-ok (depths h ! r) (at l (column r)) (at l (column r + 1))) && every (within most) (numbers l) && leb p (cuts l)
+
+-- the waiting slots, from slot 0 on
+unfoldable pub slots-ok : Head → (waiting : ℕ) → List ℤ → Bool
+slots-ok h zero st = true
+slots-ok h (suc p) st = slots-ok h p st && slot-ok h p (slot (width h) p st)
+
+unfoldable pub counts-ok : Head → State → (room : ℕ) → Bool
+counts-ok h s room = leb (s .waiting) (suc (depth h)) && leb (s .kept) room && leb (s .dropped) (s .visits) && leb (s .visits) 2147483647
+
+unfoldable pub judged : Head → State → List ℤ → (room : ℕ) → Checked
+judged h s st room =
+    checked h
+    then test (leb (needed h) (length st)) Refusal.TooShort 0
+    then test (counts-ok h s room) Refusal.OutsideRules 0
+    then test (slots-ok h (s .waiting) st) Refusal.OutsideRules 0
+
+-- ---- as facts
+pub record SlotAllowed (h : Head) (p : ℕ) (l : List ℤ) : Type 0 where
+  pub spans : (r : Direction) → SpanFits (depths h ! r) (at l (column r)) (at l (column r + 1))
+  pub small : (i : ℕ) → i < length (numbers l) → natAbs (at (numbers l) i) ≤ most
+  pub deep : p ≤ cuts l
+
+pub record Allowed (h : Head) (s : State) (st : List ℤ) (room : ℕ) : Type 0 where
+  pub waiting-high : s .waiting ≤ suc (depth h)
+  pub kept-high : s .kept ≤ room
+  pub dropped-high : s .dropped ≤ s .visits
+  pub visits-high : s .visits ≤ 2147483647
+  pub slots : (p : ℕ) → p < s .waiting → SlotAllowed h p (slot (width h) p st)
+
+-- A state is let through exactly if the head is within limits, the store is long enough, and the rules allow the state.
+abbrev pub Judged-allowed : Type 0
+Judged-allowed = (h : Head) (s : State) (st : List ℤ) (room : ℕ) → (judged h s st room ≡ Checked.Good) ↔ (Limits h × (needed h ≤ length st) × Allowed h s st room)

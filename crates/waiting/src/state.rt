@@ -1,0 +1,57 @@
+// The state of a run, and its check against the head, the waiting store and the length of the list.
+use crate::slots::long_enough;
+use crate::slots::slots_ok;
+use boxes::head::Checked;
+use boxes::head::Head;
+use boxes::refusal::Refusal;
+ghost use mathlib.Core.Path.{_≡_};
+ghost use Rattle.waiting.specs.States.{counts-ok, judged};
+ghost use Rattle.boxes.specs.Chain.{refused};
+
+// The four counts.
+pub struct State {
+    pub waiting: usize,
+    pub kept: usize,
+    pub visits: u64,
+    pub dropped: u64,
+}
+
+pub fn refuse(why: Refusal) -> Checked
+    ensures { λ r. ⌜ r ≡ refused why 0 ⌝ }
+{
+    Checked::Refused(why.at_start())
+}
+
+fn counts_ok(h: Head, s: State, room: usize) -> bool
+    ensures { λ r. ⌜ r ≡ counts-ok h s room ⌝ }
+{
+    if s.waiting > h.depth() + 1 {
+        return false;
+    }
+    if s.kept > room {
+        return false;
+    }
+    if s.dropped > s.visits {
+        return false;
+    }
+    s.visits <= 2147483647
+}
+
+// 4, 9, 10, in this order.
+pub fn check(h: Head, s: State, store: &[i64], room: usize) -> Checked
+    ensures { λ r. ⌜ r ≡ judged h s (now (store .entry)) room ⌝ }
+{
+    if !h.ok() {
+        return refuse(Refusal::OutOfLimits);
+    }
+    if !long_enough(h, store.len()) {
+        return refuse(Refusal::TooShort);
+    }
+    if !counts_ok(h, s, room) {
+        return refuse(Refusal::OutsideRules);
+    }
+    if !slots_ok(store, h, s.waiting) {
+        return refuse(Refusal::OutsideRules);
+    }
+    Checked::Good
+}

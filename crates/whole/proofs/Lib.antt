@@ -1,0 +1,11 @@
+pub mod Ring
+pub mod Solve
+pub mod Quote
+pub mod Order
+pub mod Sizes
+pub mod Lin
+pub mod Sums
+pub mod Choose
+pub mod Machine
+pub mod Negatives
+pub mod Parts

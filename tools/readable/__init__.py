@@ -1,0 +1,1 @@
+"""The parts of tools/system and tools/draw."""
