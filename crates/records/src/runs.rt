@@ -26,7 +26,7 @@ pub enum Answer {
 }
 
 // Where a run begins. It makes no step where the state is refused.
-pub(crate) fn open(v: Checked, s: State, budget: u32, room: usize) -> Cursor
+pub fn open(v: Checked, s: State, budget: u32, room: usize) -> Cursor
     ensures { λ r. ⌜ r ≡ opened v (begun s budget room) ⌝ }
 {
     let c = begin(s, budget, room);
@@ -36,7 +36,8 @@ pub(crate) fn open(v: Checked, s: State, budget: u32, room: usize) -> Cursor
     }
 }
 
-fn close(v: Checked, c: Cursor) -> Answer
+// What a run answers.
+pub fn close(v: Checked, c: Cursor) -> Answer
     ensures { λ r. ⌜ r ≡ answered v c ⌝ }
 {
     let word = c.word;

@@ -30,7 +30,7 @@ pub enum Answer {
 }
 
 // No visit yet.
-fn unmade(c: Cursor) -> Made
+pub fn unmade(c: Cursor) -> Made
     ensures { λ r. ⌜ r ≡ unseen c ⌝ }
 {
     let none = Visit {
@@ -43,7 +43,8 @@ fn unmade(c: Cursor) -> Made
     }
 }
 
-fn tell(v: Checked, m: Made) -> Answer
+// What a visit answers.
+pub fn tell(v: Checked, m: Made) -> Answer
     ensures { λ r. ⌜ r ≡ told v m ⌝ }
 {
     let c = m.cursor;
