@@ -1,8 +1,8 @@
--- `boxes_run::spans` is safe and ends. Assumes nothing.
+-- `doubles::spans` is safe and ends. Assumes nothing.
 use Prim.Native.Nat.{_<_, _-_}
 use borrow.Author.Needs.{needs}
-use Rattle.boxes_run.proofs.spans.Statement.{statement}
-use Rattle.boxes_run.proofs.spans.Tie as tie
+use Rattle.boxes_run.proofs.doubles.spans.Statement.{statement}
+use Rattle.boxes_run.proofs.doubles.spans.Tie as tie
 
 abbrev Inv-loop2 : tie.InvT-loop2
 Inv-loop2 count₀ s k₀ count k = s < 11
