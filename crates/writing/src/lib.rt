@@ -1,7 +1,7 @@
 // Writing a system file. All of it is checked, and its length counted, before the first byte is written.
 mod counts;
+mod pieces;
 mod polynomials;
-mod target;
 
 use boxes::head::Checked;
 use boxes::head::Head;
@@ -47,8 +47,8 @@ pub fn write(h: Head, coefficients: &[i64], out: &mut [u8]) -> Written
             at: 0,
         });
     }
-    target::put_head(out, h);
+    pieces::put_head(out, h);
     let o = polynomials::put_polynomials(out, h, coefficients);
-    target::put_header(out, o, 0, 3);
+    pieces::put_header(out, o, 0, 3);
     Written::Length(len)
 }

@@ -1,8 +1,8 @@
 // The records of the polynomials, put into the lent bytes one after the other. Each call answers where the next byte goes.
 use crate::counts::count_part;
-use crate::target::put_byte;
-use crate::target::put_header;
-use crate::target::put_term;
+use crate::pieces::put_byte;
+use crate::pieces::put_header;
+use crate::pieces::put_term;
 use boxes::head::Head;
 ghost use mathlib.Core.Path.{_≡_};
 ghost use mathlib.Core.Bool.{true};
