@@ -1,13 +1,13 @@
 // Runs 01's examples of heads, boxes, doubles and refusals on the calls of `boxes`, and all 2,047 spans against machine arithmetic; a line for each.
 mod doubles;
 mod halves;
-mod heads;
 mod numbers;
 mod say;
+mod systems;
 
 fn main() {
-    heads::limits();
-    heads::heads();
+    systems::limits();
+    systems::heads();
     halves::paths();
     halves::ends();
     doubles::doubles();

@@ -1,0 +1,73 @@
+#!/usr/bin/env python3
+"""Every name that the documents cite exists: `crate/File.name` in specs, `crate::path::name` in src, `crate!edit` in must-fail.
+
+    tests/names.py            checks docs/*.md and README.md, and prints how many names it found
+Ends with 1 and a line for each name that is nowhere.
+"""
+import pathlib
+import re
+import sys
+
+ROOT = pathlib.Path(__file__).resolve().parent.parent
+CRATES = {p.name for p in (ROOT / "crates").iterdir() if p.is_dir()}
+
+
+def text_of(folder, suffix):
+    return "\n".join(p.read_text() for p in sorted(folder.rglob("*" + suffix)))
+
+
+def in_specs(crate, path):
+    """A file of specs/, and a definition, a constructor or a field in it."""
+    parts = path.split(".")
+    file = ROOT / "crates" / crate / "specs" / (parts[0] + ".antt")
+    if not file.is_file():
+        return False
+    return all(re.search(r"(?m)^\s*(.*\s)?%s(\s|$)" % re.escape(name), file.read_text()) for name in parts[1:])
+
+
+def in_src(crate, path):
+    """Each part is a module, a type or a function of the crate."""
+    src = ROOT / "crates" / crate / "src"
+    text = text_of(src, ".rt")
+    for name in path.split("::"):
+        module = (src / (name + ".rt")).is_file()
+        item = re.search(r"\b(fn|struct|enum|const|mod)\s+%s\b" % re.escape(name), text)
+        variant = re.search(r"(?m)^\s*%s\b" % re.escape(name), text)
+        if not (module or item or variant):
+            return False
+    return True
+
+
+def in_edits(crate, name):
+    return (ROOT / "crates" / crate / "must-fail" / (name + ".edit")).is_file()
+
+
+FORMS = [
+    (re.compile(r"^(\w+)!(\w+)$"), in_edits),
+    (re.compile(r"^(\w+)::([\w:]+)$"), in_src),
+    (re.compile(r"^(\w+)/([A-Z][\w.₁₂₃'·-]*)$"), in_specs),
+]
+
+
+def names_in(text):
+    """The cited names of a document, each with whether it exists."""
+    for cited in re.findall(r"`([^`\n]+)`", text):
+        for form, exists in FORMS:
+            found = form.match(cited)
+            if found and found.group(1) in CRATES:
+                yield cited, exists(found.group(1), found.group(2))
+
+
+def main():
+    count, missing = 0, []
+    for document in [ROOT / "README.md", *sorted((ROOT / "docs").rglob("*.md"))]:
+        for cited, there in names_in(document.read_text()):
+            count += 1
+            if not there:
+                missing.append(f"{document.relative_to(ROOT)}: `{cited}` is nowhere")
+    print("\n".join(missing + [f"{count} names cited, {len(missing)} missing"]))
+    return 1 if missing else 0
+
+
+if __name__ == "__main__":
+    sys.exit(main())
