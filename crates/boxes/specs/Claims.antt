@@ -1,4 +1,4 @@
--- The theorems of this crate, as statements: what the definitions that the contracts cite say in 01's words. Proved in proofs/Heads, Halves and Middles.
+-- The theorems of this crate, as statements: what the definitions that the contracts cite say in 01's words. Proved in proofs/Halves and Middles.
 use mathlib.Core.Path.{_≡_}
 use mathlib.Core.Bool.{true}
 use mathlib.Core.Logic.{_↔_}
@@ -7,17 +7,11 @@ use lib.Dec.{T}
 use lib.Ieee.{Float, binary64, fits}
 use Rattle.whole.specs.Half.{Half}
 use Rattle.bernstein.specs.Numbers.{Span, half-box}
-use Rattle.boxes.specs.declared.head.Head.{Head}
 use Rattle.boxes.specs.declared.half.Box.{Box}
 use Rattle.boxes.specs.declared.half.Child.{Child}
-use Rattle.boxes.specs.Directions.{direction-at}
-use Rattle.boxes.specs.Heads.{head-ok, Limits}
+use Rattle.heads.specs.Directions.{direction-at}
 use Rattle.boxes.specs.Boxes.{as-box, box-ok, Allowed, half-of}
 use Rattle.boxes.specs.Middles.{over-power, middle, half-width, Exactly}
-
--- 01, "The system": a head passes exactly within the limits
-abbrev pub Head-limits : Type 0
-Head-limits = (h : Head) → (head-ok h ≡ true) ↔ Limits h
 
 -- 01, "Runs": a box passes exactly if it is allowed
 abbrev pub Box-allowed : Type 0

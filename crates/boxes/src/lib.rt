@@ -1,8 +1,4 @@
-// What every call of the library speaks of: the head of a system and its limits, a box by value and its halves, its middle and half width as
-// doubles, what a visit says, and the refusals.
+// What visits speak of: a box by value and its halves, its middle and half width as doubles, what a visit says.
 pub mod half;
-pub mod head;
 pub mod middle;
-pub mod refusal;
-mod test;
 pub mod visit;

@@ -2,10 +2,10 @@
 use crate::say::both;
 use crate::say::say;
 use boxes::half::Direction;
-use boxes::refusal::Refusal;
 use boxes::visit::Outcome;
 use boxes::visit::Sign;
 use boxes::visit::Word;
+use heads::refusal::Refusal;
 
 fn numbered(w: Refusal, number: u8) -> bool {
     w.number() == number

@@ -1,5 +1,5 @@
 // A line for each example, and what the others share.
-use boxes::refusal::Refused;
+use heads::refusal::Refused;
 use libc::STDOUT_FILENO;
 
 pub fn say(what: &[u8], ok: bool) {

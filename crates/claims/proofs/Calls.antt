@@ -10,9 +10,9 @@ use lib.IntN.{ℤ}
 use lib.ListN.{length, take}
 use lib.Seq.{take-take}
 use Rattle.bernstein.specs.Numbers.{Box, unit}
-use Rattle.boxes.specs.declared.head.Head.{Head}
-use Rattle.boxes.specs.declared.head.Checked.{Checked}
-use Rattle.boxes.specs.Heads.{depth, width, Limits}
+use Rattle.heads.specs.declared.head.Head.{Head}
+use Rattle.heads.specs.declared.head.Checked.{Checked}
+use Rattle.heads.specs.Heads.{depth, width, Limits}
 use Rattle.patch.specs.Slots.{unit-slot, box-in}
 use Rattle.search.specs.Lists.{All, Both}
 use Rattle.search.specs.Machine.{BothStop}

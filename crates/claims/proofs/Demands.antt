@@ -7,12 +7,12 @@ use lib.IntN.{ℤ}
 use lib.ListN.{length}
 use Rattle.bernstein.specs.Numbers.{Box}
 use Rattle.bernstein.proofs.Boxes.{sign-holds}
-use Rattle.boxes.specs.declared.head.Checked.{Checked}
+use Rattle.heads.specs.declared.head.Checked.{Checked}
 use Rattle.waiting.specs.Starts.{start-check}
 use Rattle.waiting.proofs.Starting.{start-passes, fresh-held, start-fit}
-use Rattle.boxes.specs.declared.head.Head.{Head}
+use Rattle.heads.specs.declared.head.Head.{Head}
 use Rattle.boxes.specs.declared.visit.Sign.{Sign}
-use Rattle.boxes.specs.Heads.{depth, width, Limits}
+use Rattle.heads.specs.Heads.{depth, width, Limits}
 use Rattle.patch.specs.Slots.{box-in, numbers, polynomial, unit-slot}
 use Rattle.search.specs.Lists.{All}
 use Rattle.search.specs.Search.{Entry, Visit, is-dropped, start}

@@ -4,7 +4,7 @@ use Rattle.whole.specs.Sums.{sum-to, choose}
 use Rattle.bernstein.specs.Three.{sum-upto}
 use Rattle.bernstein.specs.Numbers.{formula, scale, weight, after, half-line}
 use Rattle.bernstein.specs.Places.{place, size}
-use Rattle.boxes.specs.Heads.{places}
+use Rattle.heads.specs.Heads.{places}
 use Rattle.patch.specs.Slots.{build, in-turn, half-slot, unit-slot}
 use Rattle.patch.specs.Rules.{every, decided, chosen, looked}
 use Rattle.search.specs.Machine.{drive}

@@ -6,9 +6,9 @@ use Prim.Native.Nat.{ℕ}
 use lib.IntN.{ℤ}
 use lib.ListN.{length}
 use Rattle.bernstein.specs.Numbers.{Box}
-use Rattle.boxes.specs.declared.head.Head.{Head}
-use Rattle.boxes.specs.declared.head.Checked.{Checked}
-use Rattle.boxes.specs.declared.refusal.Refused.{Refused}
+use Rattle.heads.specs.declared.head.Head.{Head}
+use Rattle.heads.specs.declared.head.Checked.{Checked}
+use Rattle.heads.specs.declared.refusal.Refused.{Refused}
 use Rattle.search.specs.Search.{Entry}
 use Rattle.waiting.specs.declared.state.State.{State}
 use Rattle.waiting.specs.declared.cursor.Kept.{Kept}

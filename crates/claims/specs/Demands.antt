@@ -7,10 +7,10 @@ use lib.IntN.{ℤ}
 use lib.ListN.{length}
 use Rattle.bernstein.specs.Numbers.{Box, unit}
 use Rattle.bernstein.specs.Points.{Has, value}
-use Rattle.boxes.specs.declared.head.Head.{Head}
-use Rattle.boxes.specs.declared.head.Checked.{Checked}
+use Rattle.heads.specs.declared.head.Head.{Head}
+use Rattle.heads.specs.declared.head.Checked.{Checked}
 use Rattle.boxes.specs.declared.visit.Sign.{Sign}
-use Rattle.boxes.specs.Heads.{degrees, depth, width}
+use Rattle.heads.specs.Heads.{degrees, depth, width}
 use Rattle.boxes.specs.Visits.{sign}
 use Rattle.patch.specs.Slots.{box-in, polynomial}
 use Rattle.search.specs.Lists.{All}

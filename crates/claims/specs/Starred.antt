@@ -8,7 +8,7 @@ use lib.ListN.{replicate}
 use Rattle.whole.specs.Half.{Half, lower, upper}
 use Rattle.bernstein.specs.Three.{Direction, first}
 use Rattle.bernstein.specs.Numbers.{unit}
-use Rattle.boxes.specs.declared.head.Head.{Head}
+use Rattle.heads.specs.declared.head.Head.{Head}
 use Rattle.patch.specs.Slots.{start-numbers, half-numbers}
 use Rattle.search.specs.Machine.{Answer, spent, full}
 use Rattle.search.specs.Search.{entry}

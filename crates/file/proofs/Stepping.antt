@@ -9,11 +9,11 @@ use lib.Dec.{leb, eqb}
 use lib.ListN.{length, take, drop, length-drop}
 use Rattle.words.specs.Bytes.{word16}
 use Rattle.words.proofs.Words.{byte-drop}
-use Rattle.boxes.proofs.Says.{Says, le-says, eq-says, and-says}
-use Rattle.boxes.specs.declared.refusal.Refusal.the-variants.{Ended, NotDue, WrongLength}
-use Rattle.boxes.specs.declared.refusal.Refused as refusal
-use Rattle.boxes.specs.declared.head.Checked.the-variants.{Good}
-use Rattle.boxes.specs.Chain.{refused, test}
+use Rattle.heads.proofs.Says.{Says, le-says, eq-says, and-says}
+use Rattle.heads.specs.declared.refusal.Refusal.the-variants.{Ended, NotDue, WrongLength}
+use Rattle.heads.specs.declared.refusal.Refused as refusal
+use Rattle.heads.specs.declared.head.Checked.the-variants.{Good}
+use Rattle.heads.specs.Chain.{refused, test}
 use Rattle.file.specs.Records.{length-of, kind-of, step, body, fits, due}
 use Rattle.file.specs.declared.records.Shape.{Shape}
 use Rattle.file.specs.declared.records.Step.{Step}

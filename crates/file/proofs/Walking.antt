@@ -9,14 +9,14 @@ use lib.ListN.{length, drop, length-drop}
 use lib.Seq.{drop-drop}
 use Rattle.words.specs.Bytes.{byte, word16}
 use Rattle.words.proofs.Words.{byte-drop}
-use Rattle.boxes.specs.Heads as Heads
-use Rattle.boxes.specs.Heads.{head-ok}
-use Rattle.boxes.specs.declared.refusal.Refusal.the-variants.{NotDue, OutOfLimits, ExtraBytes}
-use Rattle.boxes.specs.declared.refusal.Refused as refusal
-use Rattle.boxes.specs.declared.head.Head.{Head}
-use Rattle.boxes.specs.declared.head.Checked.{Checked}
-use Rattle.boxes.specs.declared.head.Checked.the-variants.{Good, Refused}
-use Rattle.boxes.specs.Chain.{refused, test}
+use Rattle.heads.specs.Heads as Heads
+use Rattle.heads.specs.Heads.{head-ok}
+use Rattle.heads.specs.declared.refusal.Refusal.the-variants.{NotDue, OutOfLimits, ExtraBytes}
+use Rattle.heads.specs.declared.refusal.Refused as refusal
+use Rattle.heads.specs.declared.head.Head.{Head}
+use Rattle.heads.specs.declared.head.Checked.{Checked}
+use Rattle.heads.specs.declared.head.Checked.the-variants.{Good, Refused}
+use Rattle.heads.specs.Chain.{refused, test}
 use Rattle.file.specs.Layout.{Layout, layout}
 use Rattle.file.specs.Records.{length-of, due}
 use Rattle.file.specs.Terms.{place-of, term, terms}

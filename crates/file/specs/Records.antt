@@ -6,9 +6,9 @@ use mathlib.Core.List.{List, []}
 use lib.Dec.{leb, eqb}
 use lib.ListN.{length, take, drop}
 use Rattle.words.specs.Bytes.{word16}
-use Rattle.boxes.specs.declared.refusal.Refusal.{Refusal}
-use Rattle.boxes.specs.declared.head.Checked.{Checked}
-use Rattle.boxes.specs.Chain.{test, _then_}
+use Rattle.heads.specs.declared.refusal.Refusal.{Refusal}
+use Rattle.heads.specs.declared.head.Checked.{Checked}
+use Rattle.heads.specs.Chain.{test, _then_}
 use Rattle.file.specs.declared.records.Shape.{Shape}
 use Rattle.file.specs.declared.records.Step.{Step}
 use Rattle.file.specs.declared.records.Step.the-variants.{Record, Refused}

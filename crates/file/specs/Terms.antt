@@ -9,9 +9,9 @@ use lib.ListN.{drop}
 use Rattle.bernstein.specs.Three.{three}
 use Rattle.bernstein.specs.Numbers.{Index}
 use Rattle.words.specs.Bytes.{byte, word32, signed32}
-use Rattle.boxes.specs.declared.refusal.Refusal.{Refusal}
-use Rattle.boxes.specs.declared.head.Checked.{Checked}
-use Rattle.boxes.specs.Chain.{test, _then_}
+use Rattle.heads.specs.declared.refusal.Refusal.{Refusal}
+use Rattle.heads.specs.declared.head.Checked.{Checked}
+use Rattle.heads.specs.Chain.{test, _then_}
 use Rattle.file.specs.Layout.{Layout}
 
 abbrev pub exponents : List ℕ → Index

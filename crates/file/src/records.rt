@@ -1,7 +1,7 @@
 // The records of a file: one record from an offset on, its body as a part of the lent file, and the record that is due.
-use boxes::head::Checked;
-use boxes::refusal::Refusal;
-use boxes::refusal::Refused;
+use heads::head::Checked;
+use heads::refusal::Refusal;
+use heads::refusal::Refused;
 ghost use mathlib.Core.Path.{_≡_};
 ghost use Prim.Native.Nat.{_<_};
 ghost use lib.ListN.{drop};

@@ -1,8 +1,8 @@
 // The terms of a polynomial: their order, and the coefficients that they say. Of a head they use only its layout.
-use boxes::head::Checked;
-use boxes::head::Head;
-use boxes::refusal::Refusal;
-use boxes::refusal::Refused;
+use heads::head::Checked;
+use heads::head::Head;
+use heads::refusal::Refusal;
+use heads::refusal::Refused;
 ghost use mathlib.Core.Path.{_≡_};
 ghost use mathlib.Core.Bool.{cond, _&&_};
 ghost use mathlib.Core.List.{_++_};

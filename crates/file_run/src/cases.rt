@@ -9,8 +9,8 @@ use crate::sweep::prefix;
 use crate::sweep::put_all;
 use crate::sweep::refused;
 use crate::sweep::tried;
-use boxes::head::Head;
 use file::reading::Answer;
+use heads::head::Head;
 use writing::Written;
 
 fn set(to: &mut [u8], p: usize, v: u8) {

@@ -7,9 +7,9 @@ use crate::show::mixed_values;
 use crate::show::number;
 use crate::show::same_bytes;
 use crate::show::word;
-use boxes::refusal::Refused;
 use file::reading::Answer;
 use file::records::Step;
+use heads::refusal::Refused;
 use writing::Written;
 
 // 0 and the length of a file that reads and is the same when it is written again, 99 where it is another, else the refusal's number and offset.

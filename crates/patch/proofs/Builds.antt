@@ -13,8 +13,8 @@ use Rattle.bernstein.specs.Numbers.{Patch, Index, unit, half-box}
 use Rattle.bernstein.specs.Places.{place, size, index, patch, Filled}
 use Rattle.bernstein.proofs.Indices.{index-place}
 use Rattle.bernstein.proofs.Places.{place-below}
-use Rattle.boxes.specs.declared.head.Head.{Head}
-use Rattle.boxes.specs.Heads.{degrees, places, width}
+use Rattle.heads.specs.declared.head.Head.{Head}
+use Rattle.heads.specs.Heads.{degrees, places, width}
 use Rattle.patch.specs.Slots.{at, build, in-turn, polynomial, numbers, box-numbers, box-in, half-numbers, half-slot, start-numbers, unit-slot}
 
 pub build-length : (n : ℕ) (f : ℕ → ℤ) → length (build n f) ≡ n

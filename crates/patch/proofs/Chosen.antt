@@ -8,10 +8,10 @@ use lib.Dec.{T, ltb, ltb→lt}
 use lib.IntN.{ℤ}
 use Rattle.bernstein.specs.Three.{_!_}
 use Rattle.bernstein.specs.Places.{size}
-use Rattle.boxes.specs.declared.head.Head.{Head}
+use Rattle.heads.specs.declared.head.Head.{Head}
 use Rattle.boxes.specs.declared.half.Direction.{Direction}
 use Rattle.boxes.specs.declared.visit.Outcome.{Outcome}
-use Rattle.boxes.specs.Heads.{degrees, depths}
+use Rattle.heads.specs.Heads.{degrees, depths}
 use Rattle.boxes.specs.Boxes.{direction}
 use Rattle.patch.specs.Slots.{numbers}
 use Rattle.patch.specs.declared.Decision.{Decision}

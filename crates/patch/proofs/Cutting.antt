@@ -20,8 +20,8 @@ use Rattle.bernstein.specs.Numbers.{half-box, half-line}
 use Rattle.bernstein.specs.Places.{stride}
 use Rattle.bernstein.proofs.Blocks.{blocks}
 use Rattle.bernstein.proofs.Lines.{half-cong}
-use Rattle.boxes.specs.declared.head.Head.{Head}
-use Rattle.boxes.specs.Heads.{degrees, places, width, Limits}
+use Rattle.heads.specs.declared.head.Head.{Head}
+use Rattle.heads.specs.Heads.{degrees, places, width, Limits}
 use Rattle.lines.specs.Lines.{In-blocks, half-at, Lines-cut, Ready-blocks}
 use Rattle.lines.proofs.Rooms.{cut-room, off-blocks}
 use Rattle.patch.specs.Slots.{at, box-in, box-numbers, numbers, half-numbers, half-slot}

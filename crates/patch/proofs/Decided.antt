@@ -16,11 +16,11 @@ use Rattle.bernstein.specs.Points.{Has, All-have}
 use Rattle.bernstein.specs.Points
 use Rattle.bernstein.specs.Places.{place, size}
 use Rattle.bernstein.proofs.Places.{place-below}
-use Rattle.boxes.specs.declared.head.Head.{Head}
+use Rattle.heads.specs.declared.head.Head.{Head}
 use Rattle.boxes.specs.declared.visit.Sign.{Sign}
 use Rattle.boxes.specs.declared.visit.Sign.the-variants.{Above, Below}
 use Rattle.boxes.specs.declared.visit.Outcome.{Outcome}
-use Rattle.boxes.specs.Heads.{degrees, places}
+use Rattle.heads.specs.Heads.{degrees, places}
 use Rattle.patch.specs.declared.Decision.{Decision}
 use Rattle.patch.specs.declared.Choice.{Choice}
 use Rattle.patch.specs.Slots.{at, polynomial, numbers}

@@ -7,8 +7,8 @@ use Rattle.whole.specs.Half.{Half, lower, upper}
 use Rattle.bernstein.specs.Three.{Direction, first, second, third}
 use Rattle.bernstein.specs.Numbers.{Patch, Small, half-box, half-patch, formula}
 use Rattle.bernstein.proofs.Places.{held-start, held-half}
-use Rattle.boxes.specs.declared.head.Head.{Head}
-use Rattle.boxes.specs.Heads.{degrees}
+use Rattle.heads.specs.declared.head.Head.{Head}
+use Rattle.heads.specs.Heads.{degrees}
 use Rattle.patch.specs.Slots.{box-in, polynomial, numbers, ExactSlot, half-slot, unit-slot}
 use Rattle.patch.proofs.Builds.{in-turn-filled}
 

@@ -14,10 +14,10 @@ use Rattle.bernstein.specs.Three.{Direction, first, second, third, _!_}
 use Rattle.bernstein.specs.Numbers
 use Rattle.bernstein.specs.Numbers.{half-box}
 use borrow.Rule.Slice.PartMut.{putMid}
-use Rattle.boxes.specs.declared.head.Head.{Head}
+use Rattle.heads.specs.declared.head.Head.{Head}
 use Rattle.boxes.specs.declared.half.Box.{Box}
 use Rattle.boxes.specs.Boxes.{as-box, from-box}
-use Rattle.boxes.specs.Heads.{depths, places, width}
+use Rattle.heads.specs.Heads.{depths, places, width}
 use Rattle.patch.specs.Slots.{at, column, span-in, box-in, box-numbers, numbers, SpanFits, SlotFits}
 
 -- ---- the six numbers of a box

@@ -11,10 +11,10 @@ use lib.ListN.{length, take, drop}
 use lib.Pow.{pow-lt}
 use lib.Seq.{drop-drop}
 use Rattle.bernstein.specs.Places.{size}
-use Rattle.boxes.specs.declared.head.Head.{Head}
+use Rattle.heads.specs.declared.head.Head.{Head}
 use Rattle.boxes.specs.declared.half.Direction.{Direction}
 use Rattle.boxes.specs.declared.visit.Outcome.{Outcome}
-use Rattle.boxes.specs.Heads.{degrees, places}
+use Rattle.heads.specs.Heads.{degrees, places}
 use Rattle.boxes.specs.Boxes.{direction}
 use Rattle.sides.specs.Sides.{Side-is}
 use Rattle.sides.specs.declared.Side.{Side}

@@ -19,10 +19,10 @@ use Rattle.bernstein.proofs.Starts.{start-cuttable}
 use Rattle.bernstein.proofs.Lines.{after-cong}
 use Rattle.bernstein.proofs.Nested.{upto-replace}
 use Rattle.bernstein.proofs.Spreads.{spread, stage, formula-spread}
-use Rattle.boxes.specs.declared.head.Head.{Head}
+use Rattle.heads.specs.declared.head.Head.{Head}
 use Rattle.boxes.specs.declared.half.Box.{Box}
 use Rattle.boxes.specs.Boxes.{as-box, from-box}
-use Rattle.boxes.specs.Heads.{degrees, places, width, Limits}
+use Rattle.heads.specs.Heads.{degrees, places, width, Limits}
 use Rattle.lines.specs.Lines.{In-blocks, only, Lines-spread, Ready-blocks}
 use Rattle.lines.proofs.Rooms.{only-room, off-blocks}
 use Rattle.patch.specs.Slots.{at, polynomial, numbers, in-turn, box-numbers, unit-slot}

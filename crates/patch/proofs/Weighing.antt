@@ -18,8 +18,8 @@ use Rattle.bernstein.specs.Places.{size, index}
 use Rattle.bernstein.proofs.Tests.{all, all-at}
 use Rattle.bernstein.proofs.Starts.{factor-le}
 use Rattle.bernstein.proofs.Boxes.{weighted}
-use Rattle.boxes.specs.declared.head.Head.{Head}
-use Rattle.boxes.specs.Heads.{degrees, places, width}
+use Rattle.heads.specs.declared.head.Head.{Head}
+use Rattle.heads.specs.Heads.{degrees, places, width}
 use Rattle.patch.specs.Slots.{at, polynomial, in-turn}
 use Rattle.patch.proofs.Builds.{build-at, in-turn-length}
 use Rattle.patch.proofs.Working.{place-in}

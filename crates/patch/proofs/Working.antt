@@ -13,9 +13,9 @@ use Rattle.bernstein.proofs.Blocks.{blocks, block, offset, line-start, size-blo
 use Rattle.bernstein.proofs.Indices.{place-index, index-upto}
 use Rattle.bernstein.proofs.Places.{place-below, place-steps}
 use Rattle.bernstein.proofs.Nested.{upto-replace}
-use Rattle.boxes.specs.declared.head.Head.{Head}
-use Rattle.boxes.specs.Heads.{degrees, places, Limits}
-use Rattle.boxes.proofs.Heads.{size-low, places-low}
+use Rattle.heads.specs.declared.head.Head.{Head}
+use Rattle.heads.specs.Heads.{degrees, places, Limits}
+use Rattle.heads.proofs.Heads.{size-low, places-low}
 use Rattle.lines.specs.Lines.{Line, along, In-blocks, Worked}
 use Rattle.patch.specs.Slots.{at, polynomial, in-turn}
 use Rattle.patch.proofs.Builds.{build-at}

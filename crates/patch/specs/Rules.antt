@@ -9,12 +9,12 @@ use lib.Signed.{ltZ}
 use Rattle.bernstein.specs.Three
 use Rattle.bernstein.specs.Three.{_!_}
 use Rattle.bernstein.specs.Places.{size}
-use Rattle.boxes.specs.declared.head.Head.{Head}
+use Rattle.heads.specs.declared.head.Head.{Head}
 use Rattle.boxes.specs.declared.half.Direction.{Direction}
 use Rattle.boxes.specs.declared.visit.Sign.{Sign}
 use Rattle.boxes.specs.declared.visit.Sign.the-variants.{Above, Below}
 use Rattle.boxes.specs.declared.visit.Outcome.{Outcome}
-use Rattle.boxes.specs.Heads.{degrees, depths}
+use Rattle.heads.specs.Heads.{degrees, depths}
 use Rattle.boxes.specs.Boxes.{direction}
 use Rattle.patch.specs.Slots.{box-in, numbers}
 use Rattle.patch.specs.declared.Decision.{Decision}

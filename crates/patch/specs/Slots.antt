@@ -10,8 +10,8 @@ use Rattle.whole.specs.Half.{Half}
 use Rattle.bernstein.specs.Three.{Direction, first, second, third, three, _!_}
 use Rattle.bernstein.specs.Numbers.{Patch, Span, span, Box, unit, half-box, formula, half-patch}
 use Rattle.bernstein.specs.Places.{size, index, patch, Held}
-use Rattle.boxes.specs.declared.head.Head.{Head}
-use Rattle.boxes.specs.Heads.{degrees, depths, places, width, Limits}
+use Rattle.heads.specs.declared.head.Head.{Head}
+use Rattle.heads.specs.Heads.{degrees, depths, places, width, Limits}
 
 -- number i of a list
 abbrev pub at : List ℤ → ℕ → ℤ

@@ -1,12 +1,12 @@
 // The lines of a direction among the numbers of a slot: their degree, how far apart their entries stand, and in how many blocks they lie.
 use boxes::half::Direction;
-use boxes::head::Head;
+use heads::head::Head;
 ghost use mathlib.Core.Path.{_≡_};
 ghost use Prim.Native.Nat.{_+_, _*_, _≤_};
 ghost use Rattle.bernstein.specs.Three.{_!_};
 ghost use Rattle.bernstein.specs.Places.{stride};
 ghost use Rattle.bernstein.proofs.Blocks.{blocks};
-ghost use Rattle.boxes.specs.Heads.{degrees};
+ghost use Rattle.heads.specs.Heads.{degrees};
 ghost use Rattle.boxes.specs.Boxes.{direction};
 
 pub fn degree_in(h: Head, r: Direction) -> usize

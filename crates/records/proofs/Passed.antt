@@ -5,10 +5,10 @@ use mir.Syntax.{w64}
 use denote.RattleType.{RattleType}
 use denote.Laws.{Is}
 use denote.Struct.Laws as LL
-use Rattle.boxes.proofs.head.Head as head-type
-use Rattle.boxes.proofs.head.Head.Laws as head-laws
-use Rattle.boxes.proofs.head.Checked as verdict-type
-use Rattle.boxes.proofs.head.Checked.Laws as verdict-laws
+use Rattle.heads.proofs.head.Head as head-type
+use Rattle.heads.proofs.head.Head.Laws as head-laws
+use Rattle.heads.proofs.head.Checked as verdict-type
+use Rattle.heads.proofs.head.Checked.Laws as verdict-laws
 use Rattle.waiting.specs.declared.cursor.Cursor.{Cursor}
 use Rattle.waiting.proofs.cursor.Kept as entry-type
 use Rattle.waiting.proofs.cursor.Kept.Laws as entry-laws

@@ -9,9 +9,9 @@ use native.Mathlib.Omega.{arith}
 use lib.ListN.{length, length-set}
 use lib.IntN.{ℤ}
 use lib.Dec.{T as Holds}
-use Rattle.boxes.specs.declared.head.Head.{Head}
-use Rattle.boxes.specs.declared.head.Checked.{Checked}
-use Rattle.boxes.specs.declared.head.Checked.the-variants.{Good as Is-good, Refused}
+use Rattle.heads.specs.declared.head.Head.{Head}
+use Rattle.heads.specs.declared.head.Checked.{Checked}
+use Rattle.heads.specs.declared.head.Checked.the-variants.{Good as Is-good, Refused}
 use Rattle.waiting.specs.declared.cursor.Kept.{Kept}
 use Rattle.waiting.specs.declared.cursor.Cursor.{Cursor}
 use Rattle.waiting.specs.declared.state.State.{State}

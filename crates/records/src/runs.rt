@@ -1,9 +1,9 @@
 // A run as the caller sees it: the covered core makes each step on plain numbers and says which record goes where; here the record is stored.
 use crate::list::put;
-use boxes::head::Checked;
-use boxes::head::Head;
-use boxes::refusal::Refused;
 use boxes::visit::Word;
+use heads::head::Checked;
+use heads::head::Head;
+use heads::refusal::Refused;
 use waiting::cursor::Cursor;
 use waiting::cursor::Kept;
 use waiting::cursor::begin;

@@ -2,12 +2,12 @@
 use crate::list::put;
 use crate::runs::open;
 use boxes::half::Box;
-use boxes::head::Checked;
-use boxes::head::Head;
-use boxes::refusal::Refused;
 use boxes::visit::Outcome;
 use boxes::visit::Visit;
 use boxes::visit::Word;
+use heads::head::Checked;
+use heads::head::Head;
+use heads::refusal::Refused;
 use waiting::cursor::Cursor;
 use waiting::cursor::Kept;
 use waiting::state::State;

@@ -8,7 +8,7 @@ use lib.IntN.{ℤ}
 use lib.ListN.{length, set, length-set, length-map}
 use lib.Seq.{set-out}
 use Rattle.bernstein.specs.Numbers.{Box}
-use Rattle.boxes.specs.declared.head.Head.{Head}
+use Rattle.heads.specs.declared.head.Head.{Head}
 use Rattle.boxes.specs.declared.visit.Outcome.{Outcome}
 use Rattle.boxes.specs.declared.visit.Word.{Word}
 use Rattle.boxes.specs.declared.visit.Word.the-variants.{Finished, Spent, Full}

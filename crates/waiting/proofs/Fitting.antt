@@ -20,10 +20,10 @@ use Rattle.bernstein.proofs.Nested.{replaced}
 use Rattle.bernstein.proofs.Places.{place-below}
 use Rattle.bernstein.proofs.Sizes.{cut-fits}
 use Rattle.bernstein.proofs.Starts.{start-fits}
-use Rattle.boxes.specs.declared.head.Head.{Head}
+use Rattle.heads.specs.declared.head.Head.{Head}
 use Rattle.boxes.specs.declared.half.Direction.{Direction}
 use Rattle.boxes.specs.declared.visit.Outcome.{Outcome}
-use Rattle.boxes.specs.Heads.{degrees, depths, places, Limits}
+use Rattle.heads.specs.Heads.{degrees, depths, places, Limits}
 use Rattle.boxes.specs.Boxes.{direction}
 use Rattle.patch.specs.Slots.{at, box-in, numbers, polynomial, half-slot, unit-slot}
 use Rattle.patch.specs.Rules.{every, within, limit, can-cut, looked}

@@ -11,17 +11,17 @@ use lib.IntN.{ℤ, pos, natAbs}
 use lib.ListN.{length}
 use lib.Signed.{leZ, _≤ℤ_}
 use Rattle.bernstein.specs.Three.{_!_}
-use Rattle.boxes.specs.declared.refusal.Refusal.{Refusal}
-use Rattle.boxes.specs.declared.head.Head.{Head}
-use Rattle.boxes.specs.declared.head.Checked.{Checked}
-use Rattle.boxes.specs.declared.head.Checked.the-variants.{Good, Refused}
-use Rattle.boxes.specs.Heads.{depths, depth, width, Limits, checked}
-use Rattle.boxes.proofs.Says.{Says, le-says, lt-says, and-says, each-says, says-as}
-use Rattle.boxes.proofs.Heads.{head-says}
+use Rattle.heads.specs.declared.refusal.Refusal.{Refusal}
+use Rattle.heads.specs.declared.head.Head.{Head}
+use Rattle.heads.specs.declared.head.Checked.{Checked}
+use Rattle.heads.specs.declared.head.Checked.the-variants.{Good, Refused}
+use Rattle.heads.specs.Heads.{depths, depth, width, Limits, checked}
+use Rattle.heads.proofs.Says.{Says, le-says, lt-says, and-says, each-says, says-as}
+use Rattle.heads.proofs.Heads.{head-says}
 use Rattle.patch.specs.Slots.{at, column, numbers, SpanFits}
 use Rattle.patch.specs.Rules.{every, within}
 use Rattle.search.specs.Lent.{slot}
-use Rattle.boxes.specs.Chain.{test, _then_}
+use Rattle.heads.specs.Chain.{test, _then_}
 use Rattle.waiting.specs.States.{most, cuts, needed, span-ok, slot-ok, slots-ok, counts-ok, judged, SlotAllowed, Judged-allowed}
 use Rattle.waiting.specs.declared.state.State.{State}
 

@@ -8,10 +8,10 @@ use native.Mathlib.Omega.{arith}
 use lib.IntN.{ℤ}
 use lib.ListN.{length, replicate, length-replicate}
 use Rattle.bernstein.specs.Numbers.{Box, unit}
-use Rattle.boxes.specs.declared.head.Head.{Head}
-use Rattle.boxes.specs.declared.head.Checked.the-variants.{Good}
+use Rattle.heads.specs.declared.head.Head.{Head}
+use Rattle.heads.specs.declared.head.Checked.the-variants.{Good}
 use Rattle.boxes.specs.declared.visit.Outcome.{Outcome}
-use Rattle.boxes.specs.Heads.{places, depth, width, Limits}
+use Rattle.heads.specs.Heads.{places, depth, width, Limits}
 use Rattle.search.specs.Machine.{go, drive}
 use Rattle.search.specs.Search.{Entry, entry, States, visit, run}
 use Rattle.search.specs.Lent.{stack, slots, Lent, lent, held, Enough, Holds, lent-become}

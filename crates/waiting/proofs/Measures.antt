@@ -7,11 +7,11 @@ use lib.IntN.{ℤ}
 use Rattle.whole.specs.Half.{Half, lower, upper}
 use Rattle.bernstein.specs.Three
 use Rattle.bernstein.specs.Three.{first, second, third, _!_}
-use Rattle.boxes.specs.declared.head.Head.{Head}
+use Rattle.heads.specs.declared.head.Head.{Head}
 use Rattle.boxes.specs.declared.half.Direction.{Direction}
 use Rattle.boxes.specs.declared.visit.Sign.{Sign}
 use Rattle.boxes.specs.declared.visit.Outcome.{Outcome}
-use Rattle.boxes.specs.Heads.{depths}
+use Rattle.heads.specs.Heads.{depths}
 use Rattle.boxes.specs.Boxes.{direction}
 use Rattle.patch.specs.Slots.{box-in, half-slot}
 use Rattle.patch.specs.Rules.{looked}

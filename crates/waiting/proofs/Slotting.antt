@@ -17,8 +17,8 @@ use borrow.Rule.Slice.PartMut.{putMid}
 use lib.ListN.{length, take, drop, length-append, length-take, length-drop}
 use lib.Seq.{take-all, drop-drop, take-at, drop-at, length-take-le, take-take}
 use Rattle.bernstein.specs.Three.{Direction}
-use Rattle.boxes.specs.declared.head.Head.{Head}
-use Rattle.boxes.specs.Heads.{depth, width}
+use Rattle.heads.specs.declared.head.Head.{Head}
+use Rattle.heads.specs.Heads.{depth, width}
 use Rattle.patch.specs.Slots.{at, column, SpanFits, SlotFits}
 use Rattle.search.specs.Lent.{put, slot}
 use Rattle.waiting.specs.States.{needed}

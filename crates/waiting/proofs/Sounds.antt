@@ -12,10 +12,10 @@ use Rattle.whole.specs.Half.{Half, lower, upper}
 use Rattle.bernstein.specs.Numbers.{half-box}
 use Rattle.bernstein.proofs.Boxes.{no-zero}
 use Rattle.bernstein.proofs.Covers.{halves-cover, halves-inside}
-use Rattle.boxes.specs.declared.head.Head.{Head}
+use Rattle.heads.specs.declared.head.Head.{Head}
 use Rattle.boxes.specs.declared.half.Direction.{Direction}
 use Rattle.boxes.specs.declared.visit.Sign.{Sign}
-use Rattle.boxes.specs.Heads.{places, Limits}
+use Rattle.heads.specs.Heads.{places, Limits}
 use Rattle.boxes.specs.Boxes.{direction}
 use Rattle.patch.specs.Slots.{box-in, numbers, half-slot}
 use Rattle.patch.specs.Rules.{looked}

@@ -15,12 +15,12 @@ use Rattle.bernstein.specs.Numbers.{Patch, Box, half-box, half-patch, formula, 
 use Rattle.bernstein.specs.Places.{size, index}
 use Rattle.bernstein.proofs.Indices.{index-upto}
 use Rattle.bernstein.proofs.Starts.{start-fits}
-use Rattle.boxes.specs.declared.head.Head.{Head}
+use Rattle.heads.specs.declared.head.Head.{Head}
 use Rattle.boxes.specs.declared.half.Direction.{Direction}
 use Rattle.boxes.specs.declared.visit.Outcome.{Outcome}
-use Rattle.boxes.specs.Heads.{degrees, depths, depth, places, width, Limits}
+use Rattle.heads.specs.Heads.{degrees, depths, depth, places, width, Limits}
 use Rattle.boxes.specs.Boxes.{direction}
-use Rattle.boxes.proofs.Heads.{size-low}
+use Rattle.heads.proofs.Heads.{size-low}
 use Rattle.patch.specs.Slots.{at, column, box-in, box-numbers, numbers, in-turn, polynomial, half-slot, unit-slot, SpanFits}
 use Rattle.patch.specs.Rules.{looked}
 use Rattle.patch.proofs.Builds.{build-at, in-turn-length}

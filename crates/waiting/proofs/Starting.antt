@@ -9,10 +9,10 @@ use lib.IntN.{ℤ, pos, natAbs}
 use lib.ListN.{length, take, drop, replicate, length-replicate, length-append, length-take, length-drop}
 use lib.Seq.{take-at, drop-at, drop-drop, getD-take, length-take-le}
 use Rattle.bernstein.specs.Numbers.{Box}
-use Rattle.boxes.specs.declared.refusal.Refusal.{Refusal}
-use Rattle.boxes.specs.declared.head.Head.{Head}
-use Rattle.boxes.specs.declared.head.Checked.the-variants.{Good}
-use Rattle.boxes.specs.Heads.{places, depth, width, Limits}
+use Rattle.heads.specs.declared.refusal.Refusal.{Refusal}
+use Rattle.heads.specs.declared.head.Head.{Head}
+use Rattle.heads.specs.declared.head.Checked.the-variants.{Good}
+use Rattle.heads.specs.Heads.{places, depth, width, Limits}
 use Rattle.patch.specs.Slots.{at, unit-slot}
 use Rattle.patch.specs.Rules.{every, within}
 use Rattle.patch.proofs.Builds.{unit-slot-length}

@@ -10,11 +10,11 @@ use borrow.Author.Tests.{leb-true, leb-false, eqb-true, eqb-false}
 use lib.Dec.{leb, eqb}
 use lib.IntN.{ℤ}
 use lib.ListN.{length, length-take, length-drop}
-use Rattle.boxes.specs.declared.head.Head.{Head}
+use Rattle.heads.specs.declared.head.Head.{Head}
 use Rattle.boxes.specs.declared.visit.Outcome.{Outcome}
 use Rattle.boxes.specs.declared.visit.Word.{Word}
 use Rattle.boxes.specs.declared.visit.Word.the-variants.{Finished, Spent, Full}
-use Rattle.boxes.specs.Heads.{depth, width}
+use Rattle.heads.specs.Heads.{depth, width}
 use Rattle.patch.specs.Slots.{SlotFits}
 use Rattle.patch.specs.Rules.{looked}
 use Rattle.patch.proofs.Chosen.{CutIn, cut-in}

@@ -3,11 +3,11 @@ use mathlib.Core.List.{List}
 use Prim.Native.Nat.{ℕ, _+_, _-_}
 use lib.IntN.{ℤ, pos}
 use Rattle.bernstein.specs.Numbers.{Box}
-use Rattle.boxes.specs.declared.head.Head.{Head}
+use Rattle.heads.specs.declared.head.Head.{Head}
 use Rattle.boxes.specs.declared.half.Direction.{Direction}
 use Rattle.boxes.specs.declared.visit.Sign.{Sign}
 use Rattle.boxes.specs.declared.visit.Outcome.{Outcome}
-use Rattle.boxes.specs.Heads.{depths, width}
+use Rattle.heads.specs.Heads.{depths, width}
 use Rattle.boxes.specs.Boxes.{direction}
 use Rattle.patch.specs.Slots.{box-in, half-slot}
 use Rattle.patch.specs.Rules.{looked}

@@ -9,8 +9,8 @@ use lib.Signed.{_<ℤ_}
 use Rattle.bernstein.specs.Three.{Direction, Three, _!_}
 use Rattle.bernstein.specs.Numbers.{Box, Stored}
 use Rattle.bernstein.specs.Points.{Within, value}
-use Rattle.boxes.specs.declared.head.Head.{Head}
-use Rattle.boxes.specs.Heads.{degrees, depths, width}
+use Rattle.heads.specs.declared.head.Head.{Head}
+use Rattle.heads.specs.Heads.{degrees, depths, width}
 use Rattle.patch.specs.Slots.{box-in, numbers, polynomial, ExactSlot}
 
 -- of a slot, in a run of the system with the head h and the coefficients cs

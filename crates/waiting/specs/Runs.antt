@@ -8,9 +8,9 @@ use lib.IntN.{ℤ}
 use lib.ListN.{length, set}
 use Rattle.bernstein.specs.Three.{three}
 use Rattle.bernstein.specs.Numbers.{Box, span}
-use Rattle.boxes.specs.declared.head.Head.{Head}
+use Rattle.heads.specs.declared.head.Head.{Head}
 use Rattle.boxes.specs.declared.visit.Word.{Word}
-use Rattle.boxes.specs.Heads.{Limits}
+use Rattle.heads.specs.Heads.{Limits}
 use Rattle.patch.specs.Rules.{looked}
 use Rattle.search.specs.Machine.{Answer, finished, spent, full, Turn, nothing, no-room, go, Stop, drive}
 use Rattle.search.specs.Search.{Entry, entry}

@@ -6,13 +6,13 @@ use Prim.Native.Nat.{ℕ, _*_}
 use lib.Dec.{leb}
 use lib.IntN.{ℤ, pos}
 use lib.ListN.{length, take, drop, replicate}
-use Rattle.boxes.specs.declared.refusal.Refusal.{Refusal}
-use Rattle.boxes.specs.declared.head.Head.{Head}
-use Rattle.boxes.specs.declared.head.Checked.{Checked}
-use Rattle.boxes.specs.Heads.{places, depth, width, checked}
+use Rattle.heads.specs.declared.refusal.Refusal.{Refusal}
+use Rattle.heads.specs.declared.head.Head.{Head}
+use Rattle.heads.specs.declared.head.Checked.{Checked}
+use Rattle.heads.specs.Heads.{places, depth, width, checked}
 use Rattle.patch.specs.Slots.{unit-slot}
 use Rattle.patch.specs.Rules.{every, within}
-use Rattle.boxes.specs.Chain.{test, _then_}
+use Rattle.heads.specs.Chain.{test, _then_}
 use Rattle.waiting.specs.States.{needed, Allowed}
 use Rattle.waiting.specs.declared.state.State.{State}
 use Rattle.waiting.specs.declared.start.Started.{Started}

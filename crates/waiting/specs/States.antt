@@ -10,15 +10,15 @@ use lib.IntN.{ℤ, pos, natAbs}
 use lib.ListN.{length}
 use lib.Signed.{leZ}
 use Rattle.bernstein.specs.Three.{Direction, _!_}
-use Rattle.boxes.specs.declared.refusal.Refusal.{Refusal}
-use Rattle.boxes.specs.declared.head.Head.{Head}
-use Rattle.boxes.specs.declared.head.Checked.{Checked}
-use Rattle.boxes.specs.Directions.{each}
-use Rattle.boxes.specs.Heads.{depths, depth, width, Limits, checked}
+use Rattle.heads.specs.declared.refusal.Refusal.{Refusal}
+use Rattle.heads.specs.declared.head.Head.{Head}
+use Rattle.heads.specs.declared.head.Checked.{Checked}
+use Rattle.heads.specs.Directions.{each}
+use Rattle.heads.specs.Heads.{depths, depth, width, Limits, checked}
 use Rattle.patch.specs.Slots.{at, column, box-in, numbers, SpanFits}
 use Rattle.patch.specs.Rules.{every, within}
 use Rattle.search.specs.Lent.{slot}
-use Rattle.boxes.specs.Chain.{test, _then_}
+use Rattle.heads.specs.Chain.{test, _then_}
 use Rattle.waiting.specs.declared.state.State.{State}
 
 -- M

@@ -9,12 +9,12 @@ use lib.IntN.{ℤ}
 use lib.ListN.{length}
 use Rattle.bernstein.specs.Three.{_!_}
 use Rattle.bernstein.specs.Numbers.{Box, unit}
-use Rattle.boxes.specs.declared.head.Head.{Head}
+use Rattle.heads.specs.declared.head.Head.{Head}
 use Rattle.boxes.specs.declared.half.Direction.{Direction}
 use Rattle.boxes.specs.declared.visit.Outcome.{Outcome}
 use Rattle.boxes.specs.declared.visit.Visit.{Visit}
 use Rattle.boxes.specs.declared.visit.Word.{Word}
-use Rattle.boxes.specs.Heads.{depths, width, Limits}
+use Rattle.heads.specs.Heads.{depths, width, Limits}
 use Rattle.boxes.specs.Boxes.{direction, from-box}
 use Rattle.patch.specs.Slots.{box-in, SlotFits}
 use Rattle.patch.specs.Rules.{can-cut, looked}

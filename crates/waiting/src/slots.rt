@@ -1,8 +1,8 @@
 // Slots of the waiting store, by number: the tests of a slot, its box, and what patch makes of it.
 use boxes::half::Box;
 use boxes::half::Direction;
-use boxes::head::Head;
 use boxes::visit::Outcome;
+use heads::head::Head;
 use patch::cuts::box_of;
 use patch::cuts::cut;
 use patch::looks::look;
@@ -15,7 +15,7 @@ ghost use lib.Dec.{leb};
 ghost use lib.IntN.{natAbs};
 ghost use lib.ListN.{length};
 ghost use Rattle.whole.specs.Half.{lower, upper};
-ghost use Rattle.boxes.specs.Heads.{width, Limits};
+ghost use Rattle.heads.specs.Heads.{width, Limits};
 ghost use Rattle.boxes.specs.Boxes.{direction, from-box};
 ghost use Rattle.patch.specs.Slots.{at, box-in, half-slot, SlotFits};
 ghost use Rattle.patch.specs.Rules.{looked};

@@ -10,10 +10,10 @@ use crate::slots::give_up;
 use crate::slots::look_at;
 use crate::state::State;
 use boxes::half::Box;
-use boxes::head::Head;
 use boxes::visit::Outcome;
 use boxes::visit::Visit;
 use boxes::visit::Word;
+use heads::head::Head;
 ghost use mathlib.Core.Path.{_≡_};
 ghost use Rattle.waiting.specs.Steps.{halted, for-room, due, moved, next, no-visit, seen, Ready, MayVisit};
 

@@ -3,7 +3,7 @@
 mod show;
 mod through;
 
-use boxes::head::Head;
+use heads::head::Head;
 use show::word;
 use through::begun;
 use through::run;

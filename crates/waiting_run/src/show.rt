@@ -1,8 +1,8 @@
 // What is printed: words, numbers, kept boxes, states and refusals.
-use boxes::refusal::Refused;
 use boxes::visit::Outcome;
 use boxes::visit::Visit;
 use boxes::visit::Word;
+use heads::refusal::Refused;
 use libc::STDOUT_FILENO;
 use waiting::cursor::Kept;
 use waiting::state::State;

@@ -1,7 +1,7 @@
 // A driver over `step`: each record is printed where a list would take it.
 use crate::show;
-use boxes::head::Checked;
-use boxes::head::Head;
+use heads::head::Checked;
+use heads::head::Head;
 use waiting::cursor::Cursor;
 use waiting::cursor::begin;
 use waiting::start::Started;
@@ -10,7 +10,7 @@ use waiting::state::check;
 use waiting::step::step;
 use waiting::step::step_seen;
 ghost use mathlib.Core.Path.{_≡_};
-ghost use Rattle.boxes.specs.declared.head.Checked.the-variants.{Good};
+ghost use Rattle.heads.specs.declared.head.Checked.the-variants.{Good};
 ghost use Rattle.waiting.specs.States.{judged};
 ghost use Rattle.waiting.specs.Steps.{Ready};
 

@@ -9,14 +9,14 @@ use lib.IntN.{ℤ}
 use lib.ListN.{length, take, drop}
 use Rattle.words.specs.Bytes.{over}
 use Rattle.words.proofs.Putting.{over-over}
-use Rattle.boxes.specs.Heads as Heads
-use Rattle.boxes.specs.Heads.{places, head-ok, Limits}
-use Rattle.boxes.specs.declared.refusal.Refusal.the-variants.{OutOfLimits, BadCoefficient, TooShort}
-use Rattle.boxes.specs.declared.refusal.Refused as refusal
-use Rattle.boxes.specs.declared.head.Head.{Head}
-use Rattle.boxes.specs.declared.head.Checked.{Checked}
-use Rattle.boxes.specs.declared.head.Checked.the-variants.{Good, Refused}
-use Rattle.boxes.proofs.Heads.{head-limits}
+use Rattle.heads.specs.Heads as Heads
+use Rattle.heads.specs.Heads.{places, head-ok, Limits}
+use Rattle.heads.specs.declared.refusal.Refusal.the-variants.{OutOfLimits, BadCoefficient, TooShort}
+use Rattle.heads.specs.declared.refusal.Refused as refusal
+use Rattle.heads.specs.declared.head.Head.{Head}
+use Rattle.heads.specs.declared.head.Checked.{Checked}
+use Rattle.heads.specs.declared.head.Checked.the-variants.{Good, Refused}
+use Rattle.heads.proofs.Heads.{head-limits}
 use Rattle.file.specs.Layout.{layout}
 use Rattle.file.proofs.Tests.{passed}
 use Rattle.writing.specs.Writing.{record-bytes, head-body, polynomials-bytes, file-bytes, all-in-range, writable, writes}

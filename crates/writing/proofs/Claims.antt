@@ -11,12 +11,12 @@ use lib.IntN.{ℤ}
 use lib.ListN.{length, take, drop, length-append, length-drop, take-append-drop}
 use lib.Seq.{take-at, length-take-le, take-append-le, drop-append-le}
 use Rattle.words.specs.Bytes.{Bytes}
-use Rattle.boxes.specs.Heads.{places, head-ok}
-use Rattle.boxes.specs.declared.refusal.Refusal.the-variants.{OutOfLimits, BadCoefficient, TooShort}
-use Rattle.boxes.specs.declared.head.Head.{Head}
-use Rattle.boxes.specs.declared.head.Checked.{Checked}
-use Rattle.boxes.specs.declared.head.Checked.the-variants.{Good, Refused}
-use Rattle.boxes.specs.Chain.{test, _then_}
+use Rattle.heads.specs.Heads.{places, head-ok}
+use Rattle.heads.specs.declared.refusal.Refusal.the-variants.{OutOfLimits, BadCoefficient, TooShort}
+use Rattle.heads.specs.declared.head.Head.{Head}
+use Rattle.heads.specs.declared.head.Checked.{Checked}
+use Rattle.heads.specs.declared.head.Checked.the-variants.{Good, Refused}
+use Rattle.heads.specs.Chain.{test, _then_}
 use Rattle.file.specs.Layout.{Layout, layout}
 use Rattle.file.specs.Reading.{head-of, checked, numbers, filled, reads}
 use Rattle.file.specs.declared.reading.Answer.{Answer}

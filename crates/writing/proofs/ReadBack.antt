@@ -10,10 +10,10 @@ use lib.IntN.{ℤ}
 use lib.ListN.{length, take, drop, length-append, length-drop, take-append-drop}
 use lib.Seq.{drop-at, length-take-le}
 use Rattle.words.proofs.Words.{word16-bytes}
-use Rattle.boxes.specs.Heads.{places, head-ok}
-use Rattle.boxes.specs.declared.refusal.Refusal.the-variants.{NotDue, OutOfLimits}
-use Rattle.boxes.specs.declared.head.Head.{Head}
-use Rattle.boxes.specs.declared.head.Checked.the-variants.{Good}
+use Rattle.heads.specs.Heads.{places, head-ok}
+use Rattle.heads.specs.declared.refusal.Refusal.the-variants.{NotDue, OutOfLimits}
+use Rattle.heads.specs.declared.head.Head.{Head}
+use Rattle.heads.specs.declared.head.Checked.the-variants.{Good}
 use Rattle.file.specs.Layout.{Layout, layout}
 use Rattle.file.specs.Records.{length-of}
 use Rattle.file.specs.Terms.{terms, coefficients}

@@ -7,9 +7,9 @@ use Prim.Native.Nat.{ℕ, _≤_}
 use lib.IntN.{ℤ}
 use lib.ListN.{length, take, drop}
 use Rattle.words.specs.Bytes.{Bytes}
-use Rattle.boxes.specs.Heads.{places, head-ok}
-use Rattle.boxes.specs.declared.refusal.Refused.{Refused}
-use Rattle.boxes.specs.declared.head.Head.{Head}
+use Rattle.heads.specs.Heads.{places, head-ok}
+use Rattle.heads.specs.declared.refusal.Refused.{Refused}
+use Rattle.heads.specs.declared.head.Head.{Head}
 use Rattle.file.specs.Reading.{reads}
 use Rattle.file.specs.declared.reading.Answer.{Answer}
 use Rattle.writing.specs.Writing.{all-in-range, writes}

@@ -8,12 +8,12 @@ use lib.IntN.{ℤ}
 use lib.ListN.{length, take, drop}
 use Rattle.bernstein.specs.Numbers.{Index}
 use Rattle.words.specs.Bytes.{bytes16, bytes32}
-use Rattle.boxes.specs.Heads.{places, head-ok}
-use Rattle.boxes.specs.declared.refusal.Refusal.{Refusal}
-use Rattle.boxes.specs.declared.head.Head.{Head}
-use Rattle.boxes.specs.declared.head.Checked.{Checked}
-use Rattle.boxes.specs.declared.head.Checked.the-variants.{Good, Refused}
-use Rattle.boxes.specs.Chain.{test, _then_}
+use Rattle.heads.specs.Heads.{places, head-ok}
+use Rattle.heads.specs.declared.refusal.Refusal.{Refusal}
+use Rattle.heads.specs.declared.head.Head.{Head}
+use Rattle.heads.specs.declared.head.Checked.{Checked}
+use Rattle.heads.specs.declared.head.Checked.the-variants.{Good, Refused}
+use Rattle.heads.specs.Chain.{test, _then_}
 use Rattle.file.specs.Layout.{Layout, layout}
 use Rattle.file.specs.Terms.{in-range, is-zero}
 use Rattle.writing.specs.declared.Written.{Written}

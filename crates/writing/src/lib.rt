@@ -3,10 +3,10 @@ mod counts;
 mod pieces;
 mod polynomials;
 
-use boxes::head::Checked;
-use boxes::head::Head;
-use boxes::refusal::Refusal;
-use boxes::refusal::Refused;
+use heads::head::Checked;
+use heads::head::Head;
+use heads::refusal::Refusal;
+use heads::refusal::Refused;
 ghost use mathlib.Core.Path.{_≡_};
 ghost use Rattle.writing.specs.Writing.{writes};
 

@@ -1,5 +1,5 @@
 // The smallest pieces of a file, put into the lent bytes.
-use boxes::head::Head;
+use heads::head::Head;
 ghost use mathlib.Core.Path.{_≡_};
 ghost use mathlib.Core.List.{[], _∷_, _++_};
 ghost use Prim.Native.Nat.{_+_, _≤_, _<_};

@@ -3,7 +3,7 @@ use Prim.Native.Nat.{_+_, _-_, _<_, _≤_}
 use native.Mathlib.Omega.{arith}
 use borrow.Author.Needs.{needs}
 use lib.ListN.{length, drop}
-use Rattle.boxes.specs.Heads.{places}
+use Rattle.heads.specs.Heads.{places}
 use Rattle.file.proofs.Filling.{Filled, filled-long, filled-fits, filled-turn, filled-over, filled-start}
 use Rattle.file.specs.Layout.{layout}
 use Rattle.file.specs.Reading.{numbers-of}

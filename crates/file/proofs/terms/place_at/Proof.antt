@@ -4,7 +4,7 @@ use Prim.Native.Nat.{_+_}
 use native.Mathlib.Omega.{arith}
 use borrow.Author.Needs.{needs}
 use Rattle.bernstein.specs.Three.{three}
-use Rattle.boxes.specs.Heads.{degrees}
+use Rattle.heads.specs.Heads.{degrees}
 use Rattle.file.proofs.Layouts.{place-of-bytes}
 use Rattle.file.proofs.TermTests.{exponents-there}
 use Rattle.file.specs.Layout.{layout}

@@ -9,7 +9,7 @@ use lib.ListN.{length, take, length-take, length-drop}
 use Rattle.whole.specs.Half.{lower, upper}
 use Rattle.bernstein.specs.Three.{_!_}
 use Rattle.boxes.specs.Boxes.{direction, as-box, from-box}
-use Rattle.boxes.specs.Heads.{width, places}
+use Rattle.heads.specs.Heads.{width, places}
 use Rattle.patch.specs.Slots.{box-in, numbers}
 use Rattle.patch.proofs.Laying.{front-spans, front-box, front-cuts, Laid, laid, half-value}
 use Rattle.patch.proofs.Cutting.{cut-ready, as-blocks, cut-halves}

@@ -7,8 +7,8 @@ use Prim.Native.Nat.{ℕ, _*_, _≤_}
 use Rattle.bernstein.proofs.Blocks.{blocks}
 use Rattle.boxes.specs.declared.half.Direction.{Direction}
 use Rattle.boxes.specs.Boxes.{direction}
-use Rattle.boxes.specs.Heads.{degrees}
-use Rattle.boxes.proofs.Sizes.{product-high}
+use Rattle.heads.specs.Heads.{degrees}
+use Rattle.heads.proofs.Sizes.{product-high}
 use Rattle.patch.proofs.directions.blocks_in.Statement.{statement}
 use Rattle.patch.proofs.directions.blocks_in.Tie as tie
 

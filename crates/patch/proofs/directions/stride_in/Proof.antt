@@ -5,8 +5,8 @@ use borrow.Author.Needs.{needs}
 use Rattle.bernstein.specs.Places.{stride}
 use Rattle.boxes.specs.declared.half.Direction.{Direction}
 use Rattle.boxes.specs.Boxes.{direction}
-use Rattle.boxes.specs.Heads.{degrees}
-use Rattle.boxes.proofs.Sizes.{product-high}
+use Rattle.heads.specs.Heads.{degrees}
+use Rattle.heads.proofs.Sizes.{product-high}
 use Rattle.patch.proofs.directions.stride_in.Statement.{statement}
 use Rattle.patch.proofs.directions.stride_in.Tie as tie
 

@@ -2,9 +2,9 @@
 use mathlib.Core.Path.{_≡_, sym, ap, _∙_}
 use borrow.Author.Needs.{needs}
 use Prim.Native.Nat.{ℕ}
-use Rattle.boxes.specs.Heads.{degrees}
+use Rattle.heads.specs.Heads.{degrees}
 use Rattle.bernstein.specs.Places.{size}
-use Rattle.boxes.proofs.Heads.{size-low}
+use Rattle.heads.proofs.Heads.{size-low}
 use Rattle.patch.specs.Slots.{numbers}
 use Rattle.patch.specs.Rules.{decided, by-decision}
 use Rattle.patch.proofs.Looking.{slot-length, looked-by}

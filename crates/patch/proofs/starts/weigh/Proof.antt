@@ -5,8 +5,8 @@ use native.Mathlib.Nat as NatL
 use borrow.Author.Needs.{needs}
 use Prim.Native.Nat.{_+_, _-_, _<_}
 use lib.ListN.{length}
-use Rattle.boxes.specs.Heads.{places}
-use Rattle.boxes.proofs.Heads.{size-low, places-high}
+use Rattle.heads.specs.Heads.{places}
+use Rattle.heads.proofs.Heads.{size-low, places-high}
 use Rattle.whole.proofs.Machine.{back}
 use Rattle.patch.proofs.Weighing.{Weighing, weighing-start, weighing-on, weighing-end, heavy-made}
 use Rattle.patch.proofs.Spreading.{coefficient-high}

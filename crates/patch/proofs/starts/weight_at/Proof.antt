@@ -5,7 +5,7 @@ use native.Mathlib.Nat as NatL
 use borrow.Author.Needs.{needs}
 use Rattle.bernstein.specs.Three.{first, second, third}
 use Rattle.bernstein.proofs.Indices.{index-upto}
-use Rattle.boxes.specs.Heads.{degrees}
+use Rattle.heads.specs.Heads.{degrees}
 use Rattle.patch.proofs.Weighing.{three-high}
 use Rattle.patch.proofs.starts.weight_at.Statement.{statement}
 use Rattle.patch.proofs.starts.weight_at.Tie as tie

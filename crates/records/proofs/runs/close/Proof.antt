@@ -2,7 +2,7 @@
 -- Assumes nothing.
 use mathlib.Core.Path.{sym, ap}
 use borrow.Author.Needs.{needs}
-use Rattle.boxes.specs.declared.head.Checked.{Checked}
+use Rattle.heads.specs.declared.head.Checked.{Checked}
 use Rattle.records.specs.Runs.{answered}
 use Rattle.records.proofs.runs.close.Statement.{statement}
 use Rattle.records.proofs.runs.close.Tie as tie

@@ -2,7 +2,7 @@
 -- Assumes nothing.
 use mathlib.Core.Path.{sym, ap, _∙_}
 use borrow.Author.Needs.{needs}
-use Rattle.boxes.specs.declared.head.Checked.{Checked}
+use Rattle.heads.specs.declared.head.Checked.{Checked}
 use Rattle.boxes.specs.declared.visit.Word.{Word}
 use Rattle.waiting.specs.declared.cursor.Cursor.{Cursor}
 use Rattle.waiting.specs.Steps.{begun, halted}

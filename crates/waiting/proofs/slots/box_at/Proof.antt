@@ -4,7 +4,7 @@ use mathlib.Core.List.{List}
 use native.Mathlib.Omega.{arith}
 use borrow.Author.Needs.{needs}
 use lib.IntN.{ℤ}
-use Rattle.boxes.specs.Heads.{width}
+use Rattle.heads.specs.Heads.{width}
 use Rattle.boxes.specs.Boxes.{from-box}
 use Rattle.patch.specs.Slots.{box-in}
 use Rattle.waiting.proofs.Slotting.{within-ten, slot-is}

@@ -5,7 +5,7 @@ use native.Mathlib.Omega.{arith}
 use borrow.Author.Needs.{needs}
 use lib.IntN.{ℤ}
 use Rattle.whole.specs.Half.{lower, upper}
-use Rattle.boxes.specs.Heads.{width}
+use Rattle.heads.specs.Heads.{width}
 use Rattle.boxes.specs.Boxes.{direction}
 use Rattle.patch.specs.Slots.{half-slot}
 use Rattle.patch.proofs.Builds.{half-slot-length}

@@ -5,7 +5,7 @@ use native.Mathlib.Omega.{arith}
 use borrow.Author.Needs.{needs}
 use lib.ListN.{replicate, length-replicate}
 use lib.IntN.{pos}
-use Rattle.boxes.specs.Heads.{width}
+use Rattle.heads.specs.Heads.{width}
 use Rattle.waiting.proofs.Slotting.{slot-long, slot-back}
 use Rattle.waiting.proofs.slots.give_up.Statement.{statement}
 use Rattle.waiting.proofs.slots.give_up.Tie as tie

@@ -2,7 +2,7 @@
 use mathlib.Core.Path.{refl}
 use native.Mathlib.Omega.{arith}
 use borrow.Author.Needs.{needs}
-use Rattle.boxes.proofs.Heads.{slots-high}
+use Rattle.heads.proofs.Heads.{slots-high}
 use Rattle.waiting.proofs.Slotting.{needed-is}
 use Rattle.waiting.proofs.slots.long_enough.Statement.{statement}
 use Rattle.waiting.proofs.slots.long_enough.Tie as tie

@@ -4,7 +4,7 @@ use mathlib.Core.Bool.{true}
 use mathlib.Core.Path.{_≡_, refl, sym, ap, _∙_, subst}
 use native.Mathlib.Numerals.{add-one}
 use native.Mathlib.Omega.{arith}
-use Rattle.boxes.specs.Heads.{width}
+use Rattle.heads.specs.Heads.{width}
 use Rattle.waiting.specs.States.{slots-ok}
 use Rattle.waiting.proofs.Slotting.{passed, failed, slot-in}
 use Rattle.waiting.proofs.Judging.{slots-stop}

@@ -3,7 +3,7 @@ use Prim.Native.Nat.{_*_}
 use mathlib.Core.Path.{_≡_, refl}
 use native.Mathlib.Omega.{arith}
 use borrow.Author.Needs.{needs}
-use Rattle.boxes.specs.Heads.{width}
+use Rattle.heads.specs.Heads.{width}
 use Rattle.waiting.proofs.slots.start_of.Statement.{statement}
 use Rattle.waiting.proofs.slots.start_of.Tie as tie
 

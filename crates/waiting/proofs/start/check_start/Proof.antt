@@ -5,8 +5,8 @@ use native.Mathlib.Omega.{arith}
 use borrow.Author.Tests.{lt-leb, le-leb}
 use borrow.Author.Needs.{needs}
 use lib.ListN.{take, length}
-use Rattle.boxes.specs.Heads.{places}
-use Rattle.boxes.proofs.Heads.{head-says}
+use Rattle.heads.specs.Heads.{places}
+use Rattle.heads.proofs.Heads.{head-says}
 use Rattle.patch.specs.Rules.{every, within}
 use Rattle.waiting.specs.Starts.{start-check}
 use Rattle.waiting.proofs.Slotting.{passed, failed}
