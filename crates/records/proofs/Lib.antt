@@ -1,11 +1,3 @@
-pub mod Again
-pub mod Closing
-pub mod Data
-pub mod Edges
 pub mod Kepts
-pub mod Lent
-pub mod Locals
-pub mod Loops
 pub mod Passed
-pub mod Readers
 pub mod Turns

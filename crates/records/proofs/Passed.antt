@@ -23,7 +23,7 @@ use Rattle.records.proofs.visits.Answer as seen-type
 use Rattle.records.proofs.visits.Answer.Laws as seen-laws
 use Rattle.records.proofs.runs.Answer as answer-type
 use Rattle.records.proofs.runs.Answer.Laws as answer-laws
-use Rattle.records.proofs.Data.{Datum, number, structure, variant}
+use Rattle.walks.proofs.Data.{Datum, number, structure, variant}
 
 -- a record of the list
 abbrev pub entry : Datum

@@ -1,4 +1,3 @@
-pub mod Reads
 pub mod Runs
 pub mod Visits
 pub mod Tables

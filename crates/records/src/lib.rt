@@ -1,6 +1,5 @@
-// The places that the caller lends as structs: the list of kept boxes, a visit and a run that fill it, and a reader that stands on the file.
+// The list of kept boxes that the caller lends as structs, and a visit and a run that fill it.
 pub mod list;
-pub mod reader;
 pub mod runs;
 pub mod tables;
 pub mod visits;

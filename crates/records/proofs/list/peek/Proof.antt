@@ -23,12 +23,12 @@ use Rattle.waiting.specs.declared.cursor.Kept.{Kept}
 use Rattle.waiting.specs.Steps.{nothing-kept}
 use Rattle.waiting.proofs.cursor.Kept as entry-type
 use Rattle.waiting.proofs.cursor.Kept.Laws as entry-laws
-use Rattle.records.proofs.Closing.{closes}
-use Rattle.records.proofs.Data.{number, value, shown, stays, all-go, spelled, told, typed, slice-typed}
-use Rattle.records.proofs.Edges.{enters, ends-datum}
+use Rattle.walks.proofs.Closing.{closes}
+use Rattle.walks.proofs.Data.{number, value, shown, stays, all-go, spelled, told, typed, slice-typed}
+use Rattle.walks.proofs.Edges.{enters, ends-datum}
 use Rattle.records.proofs.Kepts.{nothing-fits, scaled}
-use Rattle.records.proofs.Lent.{seen}
-use Rattle.records.proofs.Locals.{upto, none, full, room, begins, passes, local, field, sets, tests, leaves}
+use Rattle.walks.proofs.Lent.{seen}
+use Rattle.walks.proofs.Locals.{upto, none, full, room, begins, passes, local, field, sets, tests, leaves}
 use Rattle.records.proofs.Passed.{entry, Rec}
 use Rattle.records.proofs.list.peek.Key.{name}
 use Rattle.records.proofs.list.peek as F

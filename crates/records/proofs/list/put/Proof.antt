@@ -21,12 +21,12 @@ use denote.Index.{place-is, elem-out, elem-put, opens-slice, closes-slice}
 use denote.Triple.Walked.{says}
 use Rattle.waiting.specs.declared.cursor.Kept.{Kept}
 use Rattle.waiting.specs.Steps.{nothing-kept}
-use Rattle.records.proofs.Closing.{closes}
-use Rattle.records.proofs.Data.{number, nothing, value, lent, stays, all-go, spelled, told, typed, slice-typed}
-use Rattle.records.proofs.Edges.{enters, ends-datum, made}
+use Rattle.walks.proofs.Closing.{closes}
+use Rattle.walks.proofs.Data.{number, nothing, value, lent, stays, all-go, spelled, told, typed, slice-typed}
+use Rattle.walks.proofs.Edges.{enters, ends-datum, made}
 use Rattle.records.proofs.Kepts.{scaled, set-past}
-use Rattle.records.proofs.Lent.{held}
-use Rattle.records.proofs.Locals.{upto, none, full, room, begins, passes, local, field, sets, tests, leaves}
+use Rattle.walks.proofs.Lent.{held}
+use Rattle.walks.proofs.Locals.{upto, none, full, room, begins, passes, local, field, sets, tests, leaves}
 use Rattle.records.proofs.Passed.{entry, Rec}
 use Rattle.records.proofs.list.put.Key.{name}
 use Rattle.records.proofs.list.put as F

@@ -10,11 +10,11 @@ use contract.Running.{givenOf}
 use types.Kit.{Given, _$_, _∵_, !, by, suffices}
 use types.Run.{of-opd, params1, pass0}
 use denote.Triple.Walked.{says}
-use Rattle.records.proofs.Closing.{closes}
-use Rattle.records.proofs.Data.{number, shown, stays, all-go, spelled, told, slice-typed}
-use Rattle.records.proofs.Edges.{enters, ends-datum}
-use Rattle.records.proofs.Lent.{seen}
-use Rattle.records.proofs.Locals.{none, full, begins, passes, field, sets, leaves}
+use Rattle.walks.proofs.Closing.{closes}
+use Rattle.walks.proofs.Data.{number, shown, stays, all-go, spelled, told, slice-typed}
+use Rattle.walks.proofs.Edges.{enters, ends-datum}
+use Rattle.walks.proofs.Lent.{seen}
+use Rattle.walks.proofs.Locals.{none, full, begins, passes, field, sets, leaves}
 use Rattle.records.proofs.Passed.{Rec}
 use Rattle.records.proofs.list.room.Key.{name}
 use Rattle.records.proofs.list.room as F

@@ -59,12 +59,12 @@ use Rattle.records.proofs.runs.open.Met as open-thm
 use Rattle.records.proofs.runs.close as closed
 use Rattle.records.proofs.runs.close.Symbol as close-def
 use Rattle.records.proofs.runs.close.Met as close-thm
-use Rattle.records.proofs.Closing.{closes}
-use Rattle.records.proofs.Data.{rows, vals, Fit, number, nothing, value, lent, stays, all-go, spelled, told, typed, slice-typed}
-use Rattle.records.proofs.Edges.{made}
-use Rattle.records.proofs.Lent.{held, seen, Token, data-owned, hands, hands-data, gives-lent, gives-data, calls-plain, calls-lent, calls-lent-last, calls-shown}
-use Rattle.records.proofs.Locals.{upto, none, full, room, has, empty, locals, begins, passes, local, field, target, sets, clears, receives, replaces, receives-last, tests, leaves}
-use Rattle.records.proofs.Loops.{whiles}
+use Rattle.walks.proofs.Closing.{closes}
+use Rattle.walks.proofs.Data.{rows, vals, Fit, number, nothing, value, lent, stays, all-go, spelled, told, typed, slice-typed}
+use Rattle.walks.proofs.Edges.{made}
+use Rattle.walks.proofs.Lent.{held, seen, Token, data-owned, hands, hands-data, gives-lent, gives-data, calls-plain, calls-lent, calls-lent-last, calls-shown}
+use Rattle.walks.proofs.Locals.{upto, none, full, room, has, empty, locals, begins, passes, local, field, target, sets, clears, receives, replaces, receives-last, tests, leaves}
+use Rattle.walks.proofs.Loops.{whiles}
 use Rattle.records.proofs.Passed.{entry, Rec, head, state, cursor, verdict, answer, place-fits, entry-fits}
 use Rattle.records.proofs.Turns.{Good, less, starts, turns, falls, ends}
 use Rattle.records.proofs.runs.run.Key.{name}

@@ -64,11 +64,11 @@ use Rattle.records.proofs.visits.unmade.Met as unmade-thm
 use Rattle.records.proofs.visits.tell as tells
 use Rattle.records.proofs.visits.tell.Symbol as tell-def
 use Rattle.records.proofs.visits.tell.Met as tell-thm
-use Rattle.records.proofs.Closing.{closes}
-use Rattle.records.proofs.Data.{rows, vals, Fit, number, nothing, value, lent, stays, all-go, spelled, told, typed, slice-typed}
-use Rattle.records.proofs.Edges.{made}
-use Rattle.records.proofs.Lent.{held, seen, Token, data-owned, hands, hands-data, gives-lent, gives-data, calls-plain, calls-lent, calls-shown}
-use Rattle.records.proofs.Locals.{upto, none, full, room, has, empty, locals, places, begins, passes, local, field, target, sets, clears, receives, replaces, tests, leaves}
+use Rattle.walks.proofs.Closing.{closes}
+use Rattle.walks.proofs.Data.{rows, vals, Fit, number, nothing, value, lent, stays, all-go, spelled, told, typed, slice-typed}
+use Rattle.walks.proofs.Edges.{made}
+use Rattle.walks.proofs.Lent.{held, seen, Token, data-owned, hands, hands-data, gives-lent, gives-data, calls-plain, calls-lent, calls-shown}
+use Rattle.walks.proofs.Locals.{upto, none, full, room, has, empty, locals, places, begins, passes, local, field, target, sets, clears, receives, replaces, tests, leaves}
 use Rattle.records.proofs.Passed.{entry, Rec, head, state, cursor, verdict, made-one, seen-answer, cursor-fits, place-fits, entry-fits}
 use Rattle.records.proofs.Turns.{starts}
 use Rattle.records.proofs.visits.visit.Key.{name}

@@ -11,15 +11,15 @@ use types.Part.{agg}
 use denote.Builtin.{u8}
 use denote.Slice.{ShrSlice, slice-vals, shr-slice-copy, shr-slice-lawful}
 use denote.Triple.Walked.{says}
-use Rattle.records.proofs.Closing.{closes}
-use Rattle.records.proofs.Data.{shown, stays, all-go, spelled, told}
-use Rattle.records.proofs.Edges.{enters, ends}
-use Rattle.records.proofs.Locals.{none, full, begins, passes, local, sets, leaves}
-use Rattle.records.proofs.Readers.{File, Own, together, file-val}
-use Rattle.records.proofs.reader.new.Key.{name}
-use Rattle.records.proofs.reader.new as F
-use Rattle.records.proofs.reader.new.Statement.{statement}
-use Rattle.records.proofs.reader.new.Code as code
+use Rattle.walks.proofs.Closing.{closes}
+use Rattle.walks.proofs.Data.{shown, stays, all-go, spelled, told}
+use Rattle.walks.proofs.Edges.{enters, ends}
+use Rattle.walks.proofs.Locals.{none, full, begins, passes, local, sets, leaves}
+use Rattle.reader.proofs.Readers.{File, Own, together, file-val}
+use Rattle.reader.proofs.new.Key.{name}
+use Rattle.reader.proofs.new as F
+use Rattle.reader.proofs.new.Statement.{statement}
+use Rattle.reader.proofs.new.Code as code
 
 pub new-spec : {M : Type 1} → statement M
 unfolding code.routine

@@ -5,7 +5,7 @@ use file::records::record_at;
 ghost use mathlib.Core.Path.{_≡_};
 ghost use lib.ListN.{drop};
 ghost use Rattle.file.specs.Records.{step, body};
-ghost use Rattle.records.specs.Reads.{after};
+ghost use Rattle.reader.specs.Reads.{after};
 
 pub struct Reader<'a> {
     pub file: &'a [u8],

@@ -14,8 +14,8 @@ use types.Kit.{Given, Item, Goal, ‵, raw, _⊛_, ⋆, Sq, prop, Step, _$_, _�
 use denote.RattleType.{Denots, owns}
 use denote.Laws.{Is}
 use denote.Steps.{nothing as true, owned}
-use Rattle.records.proofs.Data.{Datum, rows, vals, Fit}
-use Rattle.records.proofs.Lent.{Token, data-owned}
+use Rattle.walks.proofs.Data.{Datum, rows, vals, Fit}
+use Rattle.walks.proofs.Lent.{Token, data-owned}
 
 pub made : {M : Type 1} {𝓤 : URA M} {H : Heap 𝓤} {A : Atoms 𝓤} {K : Type 0} {W : Given 𝓤 H A} {Γ : List (Item 𝓤)} {G : Goal 𝓤 H} → K → (d : Datum) (x : d .row .Denot) → Is (d .row) x (d .val x ∷ []) → Step K W (‵ (d .row .own x (d .val x ∷ [])) ∷ Γ) G Γ G
 made {𝓤 = 𝓤} {H = H} {A = A} {W = W} t d x is = owned t (d .row) (Is (d .row)) (d .makes 𝓤 H A W) x (d .val x ∷ []) is

@@ -21,16 +21,16 @@ use Rattle.file.proofs.records.record_at.Symbol as callee-def
 use Rattle.file.proofs.records.record_at.Met as callee-thm
 use Rattle.file.proofs.records.Step as S
 use Rattle.file.proofs.records.Step.Laws as S′
-use Rattle.records.proofs.Closing.{closes}
-use Rattle.records.proofs.Data.{number, stays, all-go, spelled, told}
-use Rattle.records.proofs.Lent.{hands, calls-owning}
-use Rattle.records.proofs.Edges.{enters, ends}
-use Rattle.records.proofs.Locals.{upto, none, full, begins, passes, local, field, sets, receives, leaves}
-use Rattle.records.proofs.Readers.{reader, file-val, Own, File, reader-typed, apart}
-use Rattle.records.proofs.reader.record.Key.{name}
-use Rattle.records.proofs.reader.record as F
-use Rattle.records.proofs.reader.record.Statement.{statement}
-use Rattle.records.proofs.reader.record.Code as code
+use Rattle.walks.proofs.Closing.{closes}
+use Rattle.walks.proofs.Data.{number, stays, all-go, spelled, told}
+use Rattle.walks.proofs.Lent.{hands, calls-owning}
+use Rattle.walks.proofs.Edges.{enters, ends}
+use Rattle.walks.proofs.Locals.{upto, none, full, begins, passes, local, field, sets, receives, leaves}
+use Rattle.reader.proofs.Readers.{reader, file-val, Own, File, reader-typed, apart}
+use Rattle.reader.proofs.record.Key.{name}
+use Rattle.reader.proofs.record as F
+use Rattle.reader.proofs.record.Statement.{statement}
+use Rattle.reader.proofs.record.Code as code
 
 pub record-spec : {M : Type 1} → statement M
 unfolding code.routine

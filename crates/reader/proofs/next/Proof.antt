@@ -22,20 +22,20 @@ use denote.Steps.{only}
 use denote.Slice.{shr-slice-copy}
 use denote.Triple.Walked.{says}
 use Rattle.file.specs.Records.{step}
-use Rattle.records.specs.Reads.{after}
-use Rattle.records.proofs.reader.behind as callee
-use Rattle.records.proofs.reader.behind.Symbol as callee-def
-use Rattle.records.proofs.reader.behind.Met as callee-thm
-use Rattle.records.proofs.Closing.{closes}
-use Rattle.records.proofs.Data.{number, stays, all-go, spelled, told}
-use Rattle.records.proofs.Lent.{hands, calls-owning}
-use Rattle.records.proofs.Edges.{enters, ends}
-use Rattle.records.proofs.Locals.{upto, none, full, begins, passes, local, field, sets, receives, leaves}
-use Rattle.records.proofs.Readers.{reader, file-val, Own, File, reader-typed, apart, together}
-use Rattle.records.proofs.reader.next.Key.{name}
-use Rattle.records.proofs.reader.next as F
-use Rattle.records.proofs.reader.next.Statement.{statement}
-use Rattle.records.proofs.reader.next.Code as code
+use Rattle.reader.specs.Reads.{after}
+use Rattle.reader.proofs.behind as callee
+use Rattle.reader.proofs.behind.Symbol as callee-def
+use Rattle.reader.proofs.behind.Met as callee-thm
+use Rattle.walks.proofs.Closing.{closes}
+use Rattle.walks.proofs.Data.{number, stays, all-go, spelled, told}
+use Rattle.walks.proofs.Lent.{hands, calls-owning}
+use Rattle.walks.proofs.Edges.{enters, ends}
+use Rattle.walks.proofs.Locals.{upto, none, full, begins, passes, local, field, sets, receives, leaves}
+use Rattle.reader.proofs.Readers.{reader, file-val, Own, File, reader-typed, apart, together}
+use Rattle.reader.proofs.next.Key.{name}
+use Rattle.reader.proofs.next as F
+use Rattle.reader.proofs.next.Statement.{statement}
+use Rattle.reader.proofs.next.Code as code
 
 pub next-spec : {M : Type 1} → statement M
 unfolding code.routine
@@ -44,7 +44,7 @@ next-spec 𝓤 H 𝓜 𝓖 𝓡 =
     let contract = tripleOf 𝓤 H (𝓖 .A) callee.signature (callee.spec 𝓤 H (𝓖 .A) (𝓜 .mem) (𝓡 .run)) in
     let W : Given 𝓤 H (𝓖 .A) = givenOf 𝓤 H 𝓜 𝓖 in
     closes 𝓤 H 𝓜 𝓖 𝓡 F.ended (stays ps) (F.clauses 𝓤 H (𝓖 .A) (𝓜 .mem) (𝓡 .run)) code.env name code.function (code.unfolded 𝓤 H 𝓜 𝓡) (all-go ps 𝓤 H (𝓖 .A)) (spelled ps) (told ps)
-    (λ C. Triple 𝓤 (C callee-def.name) contract) (cited 𝓤 H contract 𝓜 𝓡 code.env callee-def.name callee-def.routine code.calls-records·reader·behind (callee-thm.met 𝓤 H 𝓜 𝓖 𝓡))
+    (λ C. Triple 𝓤 (C callee-def.name) contract) (cited 𝓤 H contract 𝓜 𝓡 code.env callee-def.name callee-def.routine code.calls-reader·behind (callee-thm.met 𝓤 H 𝓜 𝓖 𝓡))
     (λ 𝓣 known κs qs bounds a g are Q finish.
     let d = a .0 in
     let file = File (κs .0) (d .file) in

@@ -19,16 +19,16 @@ use Rattle.file.specs.Records.{body}
 use Rattle.file.proofs.records.body_at as callee
 use Rattle.file.proofs.records.body_at.Symbol as callee-def
 use Rattle.file.proofs.records.body_at.Met as callee-thm
-use Rattle.records.proofs.Closing.{closes}
-use Rattle.records.proofs.Data.{number, stays, all-go, spelled, told}
-use Rattle.records.proofs.Lent.{hands, calls-owning}
-use Rattle.records.proofs.Edges.{enters, ends}
-use Rattle.records.proofs.Locals.{upto, none, full, begins, passes, local, field, sets, receives, leaves}
-use Rattle.records.proofs.Readers.{reader, file-val, Own, File, reader-typed, apart}
-use Rattle.records.proofs.reader.body.Key.{name}
-use Rattle.records.proofs.reader.body as F
-use Rattle.records.proofs.reader.body.Statement.{statement}
-use Rattle.records.proofs.reader.body.Code as code
+use Rattle.walks.proofs.Closing.{closes}
+use Rattle.walks.proofs.Data.{number, stays, all-go, spelled, told}
+use Rattle.walks.proofs.Lent.{hands, calls-owning}
+use Rattle.walks.proofs.Edges.{enters, ends}
+use Rattle.walks.proofs.Locals.{upto, none, full, begins, passes, local, field, sets, receives, leaves}
+use Rattle.reader.proofs.Readers.{reader, file-val, Own, File, reader-typed, apart}
+use Rattle.reader.proofs.body.Key.{name}
+use Rattle.reader.proofs.body as F
+use Rattle.reader.proofs.body.Statement.{statement}
+use Rattle.reader.proofs.body.Code as code
 
 pub body-spec : {M : Type 1} → statement M
 unfolding code.routine

@@ -7,15 +7,15 @@ use contract.Running.{givenOf}
 use types.Kit.{Given, _$_, _∵_, !, by, suffices}
 use types.Run.{of-opd, params1, pass0}
 use denote.Triple.Walked.{says}
-use Rattle.records.proofs.Closing.{closes}
-use Rattle.records.proofs.Data.{number, stays, all-go, spelled, told}
-use Rattle.records.proofs.Edges.{enters, ends-datum}
-use Rattle.records.proofs.Locals.{none, full, begins, passes, field, sets, leaves}
-use Rattle.records.proofs.Readers.{reader, Own, reader-typed}
-use Rattle.records.proofs.reader.offset.Key.{name}
-use Rattle.records.proofs.reader.offset as F
-use Rattle.records.proofs.reader.offset.Statement.{statement}
-use Rattle.records.proofs.reader.offset.Code as code
+use Rattle.walks.proofs.Closing.{closes}
+use Rattle.walks.proofs.Data.{number, stays, all-go, spelled, told}
+use Rattle.walks.proofs.Edges.{enters, ends-datum}
+use Rattle.walks.proofs.Locals.{none, full, begins, passes, field, sets, leaves}
+use Rattle.reader.proofs.Readers.{reader, Own, reader-typed}
+use Rattle.reader.proofs.offset.Key.{name}
+use Rattle.reader.proofs.offset as F
+use Rattle.reader.proofs.offset.Statement.{statement}
+use Rattle.reader.proofs.offset.Code as code
 
 pub offset-spec : {M : Type 1} → statement M
 unfolding code.routine

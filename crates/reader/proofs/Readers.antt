@@ -29,10 +29,10 @@ use denote.Struct.Laws as LL
 use denote.Struct.Rest.{all-own, ownAt, rest, own-open, own-out, own-shut}
 use denote.Triple.Walked.{stay-none, goes-none}
 use denote.Exit.{yes}
-use Rattle.records.specs.declared.reader.Reader.{Reader}
-use Rattle.records.proofs.reader.Reader as T
-use Rattle.records.proofs.reader.Reader.Laws as T′
-use Rattle.records.proofs.Data.{Param}
+use Rattle.reader.specs.declared.Reader.{Reader}
+use Rattle.reader.proofs.Reader as T
+use Rattle.reader.proofs.Reader.Laws as T′
+use Rattle.walks.proofs.Data.{Param}
 
 abbrev pub Readers : Lfts 1 → RattleType
 Readers κs = T.the-row (namedLft 1 0 tt κs)

@@ -37,8 +37,8 @@ use denote.Lend.{Held, lends-shr-slice}
 use denote.Index.{opens-slice, closes-slice}
 use denote.Triple.Statement.{Contract, Triple}
 use denote.Triple.Call.{calls-at, calls-at-last}
-use Rattle.records.proofs.Again.{LentAgain, lends-again, comes-back}
-use Rattle.records.proofs.Data.{Datum, Has, has, rows, vals, Fit, makess}
+use Rattle.walks.proofs.Again.{LentAgain, lends-again, comes-back}
+use Rattle.walks.proofs.Data.{Datum, Has, has, rows, vals, Fit, makess}
 
 -- what the slice owns at the list l, under the name δ, at κ. The name that the signature gives to κ is no part of it
 abbrev pub held : (R : RattleType) → Lft → ℕ → ℕ → ℕ → GName → List (R .Denot) → Fml

@@ -6,9 +6,9 @@ use native.Mathlib.Omega.{arith}
 use borrow.Author.Needs.{needs}
 use lib.ListN.{length}
 use Rattle.file.proofs.Stepping.{body-inside}
-use Rattle.records.specs.Reads.{after}
-use Rattle.records.proofs.reader.behind.Statement.{statement}
-use Rattle.records.proofs.reader.behind.Tie as tie
+use Rattle.reader.specs.Reads.{after}
+use Rattle.reader.proofs.behind.Statement.{statement}
+use Rattle.reader.proofs.behind.Tie as tie
 
 record-at-requires : tie.Need-record-at-requires
 record-at-requires c κs = search needs

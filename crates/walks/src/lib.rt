@@ -1,0 +1,1 @@
+// No code: what the walks by hand of the crates above share stands in proofs/.
