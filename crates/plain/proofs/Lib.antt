@@ -1,0 +1,5 @@
+pub mod Ending
+pub mod Going
+pub mod Lists
+pub mod Opening
+pub mod Seeing
