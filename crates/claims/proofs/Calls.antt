@@ -1,41 +1,73 @@
--- What holds of lent memory whenever a call begins: the waiting slots are fit, the memory is long enough, every common zero of the unit box is held, and it is where
--- one fresh call with the visits made would be. By induction over the calls. Assumes nothing.
+-- What holds of lent memory whenever a call begins: the waiting slots are fit, the memory is long enough, every common zero of the unit box is held, and the check of
+-- a state lets it through. By induction over the calls. Assumes nothing.
 use mathlib.Core.Path.{_≡_, refl, sym, ap, _∙_, subst}
 use mathlib.Core.Logic.{inl}
-use mathlib.Core.List.{List}
-use Prim.Native.Nat.{ℕ, suc, _+_, _*_, _≤_}
+use mathlib.Core.List.{List, []}
+use Prim.Native.Nat.{ℕ, suc, _+_, _*_, _-_, _^_, _≤_}
 use native.Mathlib.Omega.{arith}
 use native.Mathlib.Nat as NatL
+use lib.Pow.{pow-pos, pow-mono}
 use lib.IntN.{ℤ}
 use lib.ListN.{length, take}
 use lib.Seq.{take-take}
+use Rattle.whole.specs.Half.{Half, lower, upper}
 use Rattle.bernstein.specs.Numbers.{Box, unit}
 use Rattle.heads.specs.declared.head.Head.{Head}
 use Rattle.heads.specs.declared.head.Checked.{Checked}
 use Rattle.heads.specs.Heads.{depth, width, Limits}
-use Rattle.patch.specs.Slots.{unit-slot, box-in}
-use Rattle.search.specs.Lists.{All, Both}
+use Rattle.boxes.specs.Boxes.{direction}
+use Rattle.heads.proofs.Heads.{depth-high}
+use Rattle.patch.specs.Slots.{unit-slot, half-slot, box-in}
+use Rattle.search.specs.Lists.{All, Both, sum}
 use Rattle.search.specs.Machine.{BothStop}
-use Rattle.search.specs.Search.{Entry, States, Log, state, run, log}
+use Rattle.search.specs.Search.{is-dropped, is-kept, is-cut, Entry, States, Log, state, start, become, run, log}
 use Rattle.search.specs.Claims.{KeptBy, Fitting, Held}
 use Rattle.search.specs.Lent.{slots, used, stack, Stacked, Enough, Holds}
 use Rattle.search.proofs.Lists.{both-path}
 use Rattle.search.proofs.Claims.{no-zero-lost, cutting-keeps, kept-by}
+use Rattle.search.proofs.Search.{Closed, run-keeps}
 use Rattle.search.proofs.Lent.{lent-runs}
 use Rattle.waiting.specs.Cells.{cells, left}
 use Rattle.waiting.specs.Fits.{Fit, Point, LiesIn, CommonZero}
 use Rattle.waiting.specs.Starts.{start-check}
 use Rattle.waiting.proofs.Measures.{measured}
+use Rattle.waiting.specs.States.{judged}
+use Rattle.waiting.specs.Steps.{memory-of, state-of}
+use Rattle.waiting.proofs.Judging.{judged-allowed}
+use Rattle.waiting.proofs.Keeping.{Kept-in, allowed-in}
+use Rattle.waiting.proofs.Standing.{Stands, stands-closed, unit-allowed}
 use Rattle.waiting.proofs.Starting.{start-passes, fresh-held, fresh-length, start-fit}
 use Rattle.waiting.proofs.Sounds.{passes, sound}
 use Rattle.claims.specs.Calls.{Memory, fresh, called, visits-made, Begun, at-start, continued, boxes-of}
 
--- whenever a call begins
+-- ---- what the check of a state asks: slots that the rules allow, and counts that can't pass 2^31 - 1
+-- the visits that a box can take
+abbrev effort : Head → List ℤ → ℕ
+effort h l = 2 ^ suc (left h l) - 1
+
+pub record Passable (h : Head) (s : States (slots (cells h))) : Type 0 where
+  pub stands : Stands h s
+  -- the visits made, and those that the waiting boxes can still take
+  pub few : s .visits + sum (effort h) (s .waiting) ≤ 2 ^ suc (depth h) - 1
+
+passable-closed : (h : Head) → Limits h → Closed (slots (cells h)) (λ z s. Passable h s)
+unfolding become
+passable-closed h m z n s (is-dropped x) e u p = record { stands = stands-closed h m z n s (is-dropped x) e u (p .stands); few = omega (arith, pow-pos (left h n), p .few) }
+passable-closed h m z n s (is-kept k) e u p = record { stands = stands-closed h m z n s (is-kept k) e u (p .stands); few = omega (arith, pow-pos (left h n), p .few) }
+passable-closed h m z n s (is-cut r) e u p =
+    let halves : (d : Half) → 2 ^ suc (left h n) ≡ 2 * 2 ^ suc (left h (half-slot h d (direction r) n)) = λ d. ap (λ (i : ℕ). 2 ^ suc i) (measured h n r e d) ∙ omega arith in
+    record {
+      stands = stands-closed h m z n s (is-cut r) e u (p .stands);
+      few = omega (arith, halves lower, halves upper, pow-pos (suc (left h (half-slot h lower (direction r) n))), p .few);
+    }
+
+-- ---- whenever a call begins
 pub record Good (h : Head) (cs : List ℤ) (f : Memory) : Type 0 where
   pub enough : Enough (cells h) (left h) (depth h) (length (f .list)) f
   pub waiting : All (Fit h cs) (boxes-of h f .waiting)
   pub kept : All (KeptBy (slots (cells h)) (Fit h cs)) (boxes-of h f .kept)
   pub zeros : (x : Point) → LiesIn x unit → CommonZero h cs x → Held (slots (cells h)) LiesIn x (boxes-of h f)
+  pub passable : Passable h (boxes-of h f)
 
 -- ---- what a call leaves
 module _ (h : Head) (m : Limits h) (cs : List ℤ) (f : Memory) (g : Good h cs f) (budget : ℕ) where
@@ -68,6 +100,7 @@ module _ (h : Head) (m : Limits h) (cs : List ℤ) (f : Memory) (g : Good h cs f
         kept = subst (λ (s : States (slots (cells h))). All (KeptBy (slots (cells h)) (Fit h cs)) (s .kept)) (sym holds) (fitting .kept);
         zeros = λ x i z. subst (λ (s : States (slots (cells h))). Held (slots (cells h)) LiesIn x s) (sym holds)
             (no-zero-lost (slots (cells h)) (Fit h cs) Point (CommonZero h cs) LiesIn (sound h m cs) x z budget (length (f .list)) (boxes-of h f) (g .waiting) (g .zeros x i z));
+        passable = subst (Passable h) (sym holds) (run-keeps (slots (cells h)) (λ z s. Passable h s) (passable-closed h m) budget (length (f .list)) [] (boxes-of h f) (g .passable));
       }
 
 -- ---- the stores as a call left them, and a list that is no shorter
@@ -93,6 +126,7 @@ good-next h cs f next g e l =
       waiting = subst (λ (s : States (slots (cells h))). All (Fit h cs) (s .waiting)) same (g .waiting);
       kept = subst (λ (s : States (slots (cells h))). All (KeptBy (slots (cells h)) (Fit h cs)) (s .kept)) same (g .kept);
       zeros = λ x i z. subst (λ (s : States (slots (cells h))). Held (slots (cells h)) LiesIn x s) same (g .zeros x i z);
+      passable = subst (Passable h) same (g .passable);
     }
 
 -- ---- a fresh start
@@ -103,6 +137,13 @@ unit-left h cs = omega arith
 unit-holds : (h : Head) (cs : List ℤ) (x : Point) → LiesIn x unit → LiesIn x (box-in (unit-slot h cs))
 unfolding unit-slot
 unit-holds h cs x i = i
+
+start-passable : (h : Head) (cs st : List ℤ) → start-check h cs st ≡ Checked.Good → Passable h (start (slots (cells h)) (unit-slot h cs))
+unfolding unit-slot
+start-passable h cs st e =
+    let a = start-passes h cs st e in
+    let most : 2 ^ suc (left h (unit-slot h cs)) ≤ 2 ^ suc (depth h) = pow-mono (omega (arith, unit-left h cs)) in
+    record { stands = record { allowed = (unit-allowed h (a .limits) cs (a .in-range), tt); dropped-high = omega arith }; few = omega (arith, most) }
 
 pub good-fresh : (h : Head) (cs st : List ℤ) → start-check h cs st ≡ Checked.Good → (list : List (Entry Box)) → Good h cs (fresh h cs st list)
 good-fresh h cs st e list =
@@ -118,6 +159,7 @@ good-fresh h cs st e list =
       waiting = subst (λ (s : States (slots (cells h))). All (Fit h cs) (s .waiting)) same (start-fit h cs st e, tt);
       kept = tt;
       zeros = λ x i z. subst (λ (s : States (slots (cells h))). Held (slots (cells h)) LiesIn x s) same (inl (inl (unit-holds h cs x i)));
+      passable = subst (Passable h) same (start-passable h cs st e);
     }
 
 -- ---- whenever a call begins
@@ -126,3 +168,11 @@ good h cs st e _ (at-start list) = good-fresh h cs st e list
 good h cs st e _ (continued {f} b budget next u l) =
     let g = good h cs st e f b in
     good-next h cs (called h budget f .state) next (good-after h (start-passes h cs st e .limits) cs f g budget) u (omega (arith, both h (start-passes h cs st e .limits) cs f g budget .state .0 .room-is))
+
+-- the check lets it through
+pub good-judged : (h : Head) → Limits h → (cs : List ℤ) (f : Memory) → Good h cs f → judged h (state-of f) (f .store) (length (f .list)) ≡ Checked.Good
+good-judged h m cs f g =
+    let most : 2 ^ suc (depth h) ≤ 2 ^ 31 = pow-mono {j = 31} (omega (arith, depth-high h m)) in
+    let k : Kept-in h (memory-of (f .store) (f .list) (state-of f)) = record { enough = g .enough; stands = g .passable .stands } in
+    judged-allowed h (state-of f) (f .store) (length (f .list)) .1
+    (m, g .enough .store-fits, allowed-in h (state-of f) (f .store) (f .list) k (omega (arith, g .passable .few, most)))

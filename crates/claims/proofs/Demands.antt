@@ -1,5 +1,6 @@
 -- The demands, proved: each from what holds whenever a call begins (Calls) and the claim of `search` for any search. Assumes nothing.
 use mathlib.Core.Path.{_≡_, refl, sym, _∙_, subst}
+use mathlib.Core.Logic.{inl, inr}
 use mathlib.Core.List.{List, [], _∷_}
 use Prim.Native.Nat.{ℕ, zero, suc, _-_, _<_}
 use native.Mathlib.Omega.{arith}
@@ -12,11 +13,15 @@ use Rattle.waiting.specs.Starts.{start-check}
 use Rattle.waiting.proofs.Starting.{start-passes, fresh-held, start-fit}
 use Rattle.heads.specs.declared.head.Head.{Head}
 use Rattle.boxes.specs.declared.visit.Sign.{Sign}
+use Rattle.boxes.specs.declared.half.Direction.{Direction}
+use Rattle.boxes.specs.Boxes.{direction}
 use Rattle.heads.specs.Heads.{depth, width, Limits}
 use Rattle.patch.specs.Slots.{box-in, numbers, polynomial, unit-slot}
-use Rattle.search.specs.Lists.{All}
-use Rattle.search.specs.Search.{Entry, Visit, is-dropped, start}
-use Rattle.search.specs.Claims.{SeenBy}
+use Rattle.patch.specs.Rules.{looked}
+use Rattle.search.specs.Lists.{All, Any}
+use Rattle.search.specs.Machine.{Answer, finished, spent, full}
+use Rattle.search.specs.Search.{Look, Entry, Visit, States, is-dropped, is-kept, start}
+use Rattle.search.specs.Claims.{SeenBy, KeptBy, Held, Means}
 use Rattle.search.specs.Lent.{slots, slot, stack, LentCalled, lent-first, lent-again, used}
 use Rattle.search.proofs.Claims.{answer-means, longer-goes-on as any-longer}
 use Rattle.search.proofs.Continued.{lent-continued}
@@ -24,11 +29,14 @@ use Rattle.search.proofs.Counts.{counts-add-up}
 use Rattle.search.proofs.Lent.{stacked-length}
 use Rattle.search.proofs.Slots.{stack-length}
 use Rattle.whole.proofs.Parts.{by-lt}
-use Rattle.waiting.specs.Cells.{cells, left}
-use Rattle.waiting.specs.Fits.{Fit, InsideBox}
+use Rattle.waiting.specs.Cells.{as-look, cells, left}
+use Rattle.waiting.specs.Fits.{Fit, LiesIn, InsideBox}
+use Rattle.waiting.proofs.Standing.{from-stack}
 use Rattle.waiting.proofs.Sounds.{drop-signs, nests}
 use Rattle.claims.specs.Calls.{Memory, fresh, called, visits-made, Begun, at-start, continued as goes-on, boxes-of}
-use Rattle.claims.specs.Demands.{Waiting-exact, Visits-by-the-rules, Kept-by-the-rules, Counts-of-visits, No-zero-lost, OneSign, Dropped-one-sign, Longer-goes-on, Answers-mean, Slots-enough, Continued}
+use Rattle.claims.specs.Demands.{Waiting-exact, SeenRightly, Visits-by-the-rules, KeptRightly, Kept-by-the-rules, Starts-as-the-search, Runs-as-the-search, Counts-of-visits, No-zero-lost, OneSign, Dropped-one-sign, Longer-goes-on, Answers-mean, Finished-is-whole, Slots-enough, Continued}
+use Rattle.claims.specs.Rules.{Says}
+use Rattle.claims.proofs.Rules.{rules-mean}
 use Rattle.claims.proofs.Calls.{Good, both, holds, visits-are, fitting, good-after, good, good-fresh}
 
 -- ---- 2
@@ -44,16 +52,38 @@ all-map P Q f [] a = tt
 all-map P Q f (x ∷ l) a = (f x (a .0), all-map P Q f l (a .1))
 
 pub waiting-exact : Waiting-exact
-waiting-exact h cs st e f b budget =
-    slot-of (Fit h cs) (width h) (called h budget f .state .waiting) (called h budget f .state .store) (good-after h (start-passes h cs st e .limits) cs f (good h cs st e f b) budget .waiting)
+waiting-exact h cs st e f b budget p l =
+    let s = called h budget f .state in
+    let g = good-after h (start-passes h cs st e .limits) cs f (good h cs st e f b) budget in
+    (slot-of (Fit h cs) (width h) (s .waiting) (s .store) (g .waiting) p l, from-stack h (s .store) (s .waiting) (g .passable .stands .allowed) p l)
 
-pub visits-by-the-rules : Visits-by-the-rules
-visits-by-the-rules h cs st e f b budget =
+-- the computed outcome is 01's
+says : (h : Head) (cs l : List ℤ) → Fit h cs l → (w : Look (ℕ × Sign) Direction) → as-look (looked h l) ≡ w → Says h l w
+says h cs l f w e = subst (Says h l) e (rules-mean h l (f .long) (λ r. f .cuts-high (direction r)))
+
+visits-seen : (h : Head) (cs st : List ℤ) → start-check h cs st ≡ Checked.Good → (f : Memory) → Begun h cs st f → (budget : ℕ) → All (SeenBy (slots (cells h)) (Fit h cs)) (visits-made h budget f)
+visits-seen h cs st e f b budget =
     let l = start-passes h cs st e .limits in let g = good h cs st e f b in
     subst (All (SeenBy (slots (cells h)) (Fit h cs))) (sym (visits-are h l cs f g budget)) (fitting h l cs f g budget .visited)
 
+pub visits-by-the-rules : Visits-by-the-rules
+visits-by-the-rules h cs st e f b budget =
+    all-map (SeenBy (slots (cells h)) (Fit h cs)) (SeenRightly h cs) (λ v k. record { fit = k .fit; says = says h cs (v .node) (k .fit) (v .what) (k .looked) })
+    (visits-made h budget f) (visits-seen h cs st e f b budget)
+
 pub kept-by-the-rules : Kept-by-the-rules
-kept-by-the-rules h cs st e f b budget = good-after h (start-passes h cs st e .limits) cs f (good h cs st e f b) budget .kept
+kept-by-the-rules h cs st e f b budget =
+    all-map (KeptBy (slots (cells h)) (Fit h cs)) (KeptRightly h cs)
+    (λ k y. record { node = y .node; fit = y .fit; says = says h cs (y .node) (y .fit) (is-kept (k .mark)) (y .looked); placed = y .placed })
+    (boxes-of h (called h budget f .state) .kept) (good-after h (start-passes h cs st e .limits) cs f (good h cs st e f b) budget .kept)
+
+pub starts-as-the-search : Starts-as-the-search
+starts-as-the-search h cs st list = fresh-held h cs st list
+
+pub runs-as-the-search : Runs-as-the-search
+runs-as-the-search h cs st e f b budget =
+    let l = start-passes h cs st e .limits in let g = good h cs st e f b in
+    (both h l cs f g budget .answer, holds h l cs f g budget, visits-are h l cs f g budget)
 
 pub counts-of-visits : Counts-of-visits
 counts-of-visits h cs st e f b budget =
@@ -78,7 +108,7 @@ one-sign h l cs v k p s e =
 pub dropped-one-sign : Dropped-one-sign
 dropped-one-sign h cs st e f b budget =
     all-map (SeenBy (slots (cells h)) (Fit h cs)) (λ v. (p : ℕ) (s : Sign) → v .what ≡ is-dropped (p, s) → OneSign h cs (v .node) p s) (λ v k. one-sign h (start-passes h cs st e .limits) cs v k)
-    (visits-made h budget f) (visits-by-the-rules h cs st e f b budget)
+    (visits-made h budget f) (visits-seen h cs st e f b budget)
 
 pub longer-goes-on : Longer-goes-on
 longer-goes-on h cs st st′ e e′ list list′ budget budget′ k k′ =
@@ -94,6 +124,23 @@ pub answers-mean : Answers-mean
 answers-mean h cs st e f b budget =
     let l = start-passes h cs st e .limits in let g = good h cs st e f b in
     rw (holds h l cs f g budget, both h l cs f g budget .answer) (answer-means (slots (cells h)) budget (length (f .list)) (boxes-of h f))
+
+pub finished-is-whole : Finished-is-whole
+finished-is-whole h cs st e f b budget a x i z =
+    from (called h budget f .answer) a (answers-mean h cs st e f b budget) (no-zero-lost h cs st e f b budget x i z)
+  where
+    t : States (slots (cells h))
+    t = boxes-of h (called h budget f .state)
+
+    kept : t .waiting ≡ [] → Held (slots (cells h)) LiesIn x t → Any (λ (k : Entry Box). LiesIn x (k .place)) (t .kept)
+    kept w (inl n) = absurd (subst (λ (l : List (List ℤ)). Any (λ (n : List ℤ). LiesIn x (box-in n)) l) w n)
+    kept w (inr k) = k
+
+    from : (w : Answer) → w ≡ finished → Means (slots (cells h)) budget (length (f .list)) (boxes-of h f) t w → Held (slots (cells h)) LiesIn x t
+        → Any (λ (k : Entry Box). LiesIn x (k .place)) (t .kept)
+    from finished q m k = kept (m .1) k
+    from spent q m k = let z : _≡_ {A = ℕ} 0 1 = cc in absurd (omega arith)
+    from full q m k = let z : _≡_ {A = ℕ} 0 1 = cc in absurd (omega arith)
 
 pub slots-enough : Slots-enough
 slots-enough h cs st e f b budget =

@@ -1,4 +1,9 @@
 pub mod Calls
+pub mod Signs
+pub mod Rules
+pub mod Alone
 pub mod Demands
 pub mod Starred
 pub mod Caller
+pub mod Reached
+pub mod Stores

@@ -1,5 +1,5 @@
--- 01's starred examples A, B, C and E, as one list of cases and one statement over it: starting numbers, halves, and the stops of runs, by the definitions that
--- the contracts cite. The proof computes them.
+-- 01's starred examples A, B, C and E, as one list of cases and one statement over it: starting numbers, halves, and what a start and a run answer, by the
+-- definitions that the contracts cite. The proof computes them.
 use mathlib.Core.Path.{_≡_}
 use mathlib.Core.List.{List, [], _∷_}
 use Prim.Native.Nat.{ℕ}
@@ -7,29 +7,36 @@ use lib.IntN.{ℤ, pos, negsuc}
 use lib.ListN.{replicate}
 use Rattle.whole.specs.Half.{Half, lower, upper}
 use Rattle.bernstein.specs.Three.{Direction, first}
-use Rattle.bernstein.specs.Numbers.{unit}
 use Rattle.heads.specs.declared.head.Head.{Head}
+use Rattle.heads.specs.declared.head.Checked.{Checked}
+use Rattle.boxes.specs.declared.visit.Word.{Word}
+use Rattle.heads.specs.Heads.{checked}
 use Rattle.patch.specs.Slots.{start-numbers, half-numbers}
-use Rattle.search.specs.Machine.{Answer, spent, full}
-use Rattle.search.specs.Search.{entry}
 use Rattle.search.specs.Lists.{All}
+use Rattle.waiting.specs.declared.start.Started.{Started}
 use Rattle.waiting.specs.States.{needed}
-use Rattle.claims.specs.Calls.{fresh, called}
+use Rattle.waiting.specs.Starts.{start-check, start-answer, start-store, fresh-state}
+use Rattle.waiting.specs.Steps.{nothing-kept}
+use Rattle.records.specs.declared.runs.Answer.{Answer}
+use Rattle.records.specs.Runs.{run-of}
 
 pub data Case : Type 0 where
   -- the starting numbers of a system with these coefficients
   starts : Head → (coefficients numbers : List ℤ) → Case
   -- the numbers of a half of a box with these numbers
   halves : Head → Half → Direction → (numbers half : List ℤ) → Case
-  -- where a call from a fresh start stops: visits, dropped, kept, waiting
-  stops : Head → (coefficients : List ℤ) (budget room : ℕ) → Answer → (visits dropped kept waiting : ℕ) → Case
+  -- what a run answers after a start: the word, visits, dropped, kept, waiting
+  stops : Head → (coefficients : List ℤ) (budget room : ℕ) → Word → (visits dropped kept waiting : ℕ) → Case
 
 abbrev pub Right : Case → Type 0
-Right (starts h cs xs) = start-numbers h cs ≡ xs
+Right (starts h cs xs) = (checked h ≡ Checked.Good) × (start-numbers h cs ≡ xs)
 Right (halves h e r xs ys) = half-numbers h e r xs ≡ ys
-Right (stops h cs budget room a visits dropped kept waiting) =
-    let r = called h budget (fresh h cs (replicate (needed h) (pos 0)) (replicate room (entry unit 0 0))) in
-    (r .answer ≡ a) × (r .state .visits ≡ visits) × (r .state .dropped ≡ dropped) × (r .state .kept ≡ kept) × (r .state .waiting ≡ waiting)
+Right (stops h cs budget room word visits dropped kept waiting) =
+    let st = replicate (needed h) (pos 0) in
+    let tested = start-check h cs st in
+    (start-answer tested ≡ Started.Begun fresh-state)
+    × (run-of h fresh-state budget (replicate room nothing-kept) (start-store h cs st tested) .answer
+    ≡ Answer.Stopped (record { word = word; state = record { waiting = waiting; kept = kept; visits = visits; dropped = dropped } }))
 
 -- one polynomial in one or two variables
 abbrev one : (degree depth : ℕ) → Head
@@ -65,9 +72,9 @@ starred =
     ∷ starts two (-1 ∷ pos 0 ∷ pos 1 ∷ pos 0 ∷ pos 0 ∷ pos 0 ∷ pos 1 ∷ pos 0 ∷ pos 0 ∷ []) (-4 ∷ -4 ∷ pos 0 ∷ -4 ∷ -4 ∷ pos 0 ∷ pos 0 ∷ pos 0 ∷ pos 4 ∷ [])
     ∷ starts two (pos 0 ∷ -1 ∷ pos 0 ∷ pos 1 ∷ pos 0 ∷ pos 0 ∷ pos 0 ∷ pos 0 ∷ pos 0 ∷ []) (pos 0 ∷ -2 ∷ -4 ∷ pos 2 ∷ pos 0 ∷ -2 ∷ pos 4 ∷ pos 2 ∷ pos 0 ∷ [])
     -- E: 2x - 1, degree 1, depth 2: budget 3; list room 1 with a large budget, and with budget 5
-    ∷ stops (one 1 2) e 3 1024 spent 3 1 0 2
-    ∷ stops (one 1 2) e 1000 1 full 5 1 1 2
-    ∷ stops (one 1 2) e 5 1 spent 5 1 1 2
+    ∷ stops (one 1 2) e 3 1024 Word.Spent 3 1 0 2
+    ∷ stops (one 1 2) e 1000 1 Word.Full 5 1 1 2
+    ∷ stops (one 1 2) e 5 1 Word.Spent 5 1 1 2
     ∷ []
 
 abbrev pub Starred-right : Type 0
