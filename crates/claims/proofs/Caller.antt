@@ -22,14 +22,15 @@ use Rattle.records.specs.declared.visits.Answer as Visit
 use Rattle.records.specs.Runs.{Run, run-of}
 use Rattle.records.specs.Visits.{One, visit-of}
 use Rattle.waiting.specs.declared.state.State.{State}
-use Rattle.waiting.specs.declared.cursor.Kept.{Kept}
-use Rattle.waiting.specs.declared.cursor.Cursor.{Cursor}
+use Rattle.steps.specs.declared.cursor.Kept.{Kept}
+use Rattle.steps.specs.declared.cursor.Cursor.{Cursor}
 use Rattle.waiting.specs.Cells.{cells}
 use Rattle.waiting.specs.States.{judged}
-use Rattle.waiting.specs.Steps.{begun, due, memory-of, state-of, seen}
-use Rattle.waiting.specs.Runs.{Way, way, turned, went, forget, remember, Ends, One-turn}
+use Rattle.waiting.specs.States.{memory-of, state-of}
+use Rattle.steps.specs.Steps.{begun, due, seen}
+use Rattle.steps.specs.Runs.{Way, way, turned, went, forget, remember, Ends, One-turn}
 use Rattle.waiting.proofs.Judging.{judged-allowed}
-use Rattle.waiting.proofs.Driving.{run-drives, turn-turns, remembered}
+use Rattle.steps.proofs.Driving.{run-drives, turn-turns, remembered}
 use Rattle.claims.specs.Calls.{Memory, called}
 use Rattle.claims.specs.Caller.{Gives, Run-is-a-call, Tells, Visit-is-a-visit, Same-effects, Visit-is-a-run, Refusal-changes-nothing}
 

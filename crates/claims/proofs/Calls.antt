@@ -32,9 +32,9 @@ use Rattle.waiting.specs.Fits.{Fit, Point, LiesIn, CommonZero}
 use Rattle.waiting.specs.Starts.{start-check}
 use Rattle.waiting.proofs.Measures.{measured}
 use Rattle.waiting.specs.States.{judged}
-use Rattle.waiting.specs.Steps.{memory-of, state-of}
+use Rattle.waiting.specs.States.{memory-of, state-of}
 use Rattle.waiting.proofs.Judging.{judged-allowed}
-use Rattle.waiting.proofs.Keeping.{Kept-in, allowed-in}
+use Rattle.steps.proofs.Keeping.{Kept-in, allowed-in}
 use Rattle.waiting.proofs.Standing.{Stands, stands-closed, unit-allowed}
 use Rattle.waiting.proofs.Starting.{start-passes, fresh-held, fresh-length, start-fit}
 use Rattle.waiting.proofs.Sounds.{passes, sound}

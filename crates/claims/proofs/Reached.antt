@@ -21,14 +21,14 @@ use Rattle.search.specs.Claims.{Held}
 use Rattle.search.specs.Lent.{slot, stack, slots, memory, used, lent}
 use Rattle.waiting.specs.declared.state.State.{State}
 use Rattle.waiting.specs.declared.start.Started.{Started}
-use Rattle.waiting.specs.declared.cursor.Kept.{Kept}
+use Rattle.steps.specs.declared.cursor.Kept.{Kept}
 use Rattle.waiting.specs.Cells.{cells}
 use Rattle.waiting.specs.Fits.{Fit, Point, LiesIn}
 use Rattle.waiting.specs.States.{SlotAllowed, judged}
 use Rattle.waiting.specs.Starts.{start-check, start-answer, start-store}
-use Rattle.waiting.specs.Steps.{state-of}
-use Rattle.waiting.specs.Runs.{forget, remember}
-use Rattle.waiting.proofs.Driving.{remembered}
+use Rattle.waiting.specs.States.{state-of}
+use Rattle.steps.specs.Runs.{forget, remember}
+use Rattle.steps.proofs.Driving.{remembered}
 use Rattle.waiting.proofs.Starting.{start-passes}
 use Rattle.records.specs.declared.runs.Stop.{Stop}
 use Rattle.records.specs.declared.runs.Answer as Run

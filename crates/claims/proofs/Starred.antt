@@ -10,8 +10,8 @@ use Rattle.patch.specs.Rules.{every, decided, chosen, looked}
 use Rattle.search.specs.Lent.{lent-become}
 use Rattle.waiting.specs.States.{span-ok, slot-ok, slots-ok, counts-ok, judged}
 use Rattle.waiting.specs.Starts.{start-check, fresh-store}
-use Rattle.waiting.specs.Steps.{due, visited, next}
-use Rattle.waiting.specs.Runs.{went}
+use Rattle.steps.specs.Steps.{due, visited, next}
+use Rattle.steps.specs.Runs.{went}
 use Rattle.claims.specs.Starred.{Starred-right}
 
 pub starred-right : Starred-right

@@ -27,7 +27,7 @@ use Rattle.search.proofs.Slots.{stack-length, put-length}
 use Rattle.waiting.specs.Cells.{cells, left}
 use Rattle.waiting.specs.States.{needed}
 use Rattle.waiting.specs.Starts.{start-check, fresh-store}
-use Rattle.waiting.proofs.Keeping.{Kept-in, visit-in}
+use Rattle.steps.proofs.Keeping.{Kept-in, visit-in}
 use Rattle.waiting.proofs.Starting.{start-passes}
 use Rattle.claims.specs.Calls.{Memory, called, Begun, at-start, continued}
 use Rattle.claims.specs.Demands.{ListStays, Store-beyond, List-beyond}

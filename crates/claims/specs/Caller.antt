@@ -16,11 +16,12 @@ use Rattle.search.specs.Machine.{Turn, nothing, no-room, go}
 use Rattle.search.specs.Search.{Entry}
 use Rattle.search.specs.Lent.{lent}
 use Rattle.waiting.specs.declared.state.State.{State}
-use Rattle.waiting.specs.declared.cursor.Kept.{Kept}
+use Rattle.steps.specs.declared.cursor.Kept.{Kept}
 use Rattle.waiting.specs.Cells.{cells}
 use Rattle.waiting.specs.States.{judged}
-use Rattle.waiting.specs.Steps.{memory-of, state-of, top, visit-of as seen-in}
-use Rattle.waiting.specs.Runs.{Way, forget, word-of}
+use Rattle.waiting.specs.States.{memory-of, state-of}
+use Rattle.steps.specs.Steps.{top, visit-of as seen-in}
+use Rattle.steps.specs.Runs.{Way, forget, word-of}
 use Rattle.records.specs.declared.runs.Answer.{Answer}
 use Rattle.records.specs.declared.runs.Answer.the-variants.{Stopped as Ran, Refused as Not-run}
 use Rattle.records.specs.declared.visits.Answer as Visit

@@ -16,12 +16,12 @@ use Rattle.search.specs.Lists.{Any}
 use Rattle.search.specs.Lent.{slot, stack}
 use Rattle.waiting.specs.declared.state.State.{State}
 use Rattle.waiting.specs.declared.start.Started.{Started}
-use Rattle.waiting.specs.declared.cursor.Kept.{Kept}
+use Rattle.steps.specs.declared.cursor.Kept.{Kept}
 use Rattle.waiting.specs.Fits.{Fit, Point, LiesIn, CommonZero}
 use Rattle.waiting.specs.States.{SlotAllowed, judged}
 use Rattle.waiting.specs.Starts.{start-check, start-answer, start-store}
-use Rattle.waiting.specs.Steps.{state-of}
-use Rattle.waiting.specs.Runs.{forget}
+use Rattle.waiting.specs.States.{state-of}
+use Rattle.steps.specs.Runs.{forget}
 use Rattle.records.specs.declared.runs.Stop.{Stop}
 use Rattle.records.specs.declared.runs.Answer as Run
 use Rattle.records.specs.declared.visits.Seen.{Seen}

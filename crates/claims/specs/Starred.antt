@@ -16,7 +16,7 @@ use Rattle.search.specs.Lists.{All}
 use Rattle.waiting.specs.declared.start.Started.{Started}
 use Rattle.waiting.specs.States.{needed}
 use Rattle.waiting.specs.Starts.{start-check, start-answer, start-store, fresh-state}
-use Rattle.waiting.specs.Steps.{nothing-kept}
+use Rattle.steps.specs.Steps.{nothing-kept}
 use Rattle.records.specs.declared.runs.Answer.{Answer}
 use Rattle.records.specs.Runs.{run-of}
 

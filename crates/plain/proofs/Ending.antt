@@ -7,10 +7,10 @@ use lib.IntN.{ℤ}
 use lib.ListN.{length, length-set}
 use Rattle.heads.specs.declared.head.Head.{Head}
 use Rattle.heads.specs.declared.head.Checked.{Checked}
-use Rattle.waiting.specs.declared.cursor.Kept.{Kept}
-use Rattle.waiting.specs.declared.cursor.Cursor.{Cursor}
-use Rattle.waiting.specs.Steps.{next}
-use Rattle.waiting.specs.Runs.{Way, turned, went}
+use Rattle.steps.specs.declared.cursor.Kept.{Kept}
+use Rattle.steps.specs.declared.cursor.Cursor.{Cursor}
+use Rattle.steps.specs.Steps.{next}
+use Rattle.steps.specs.Runs.{Way, turned, went}
 use Rattle.records.specs.Runs.{set-out, run-of}
 use Rattle.records.specs.Visits.{one, visit-of}
 use Rattle.plain.specs.Lists.{listed}

@@ -8,13 +8,13 @@ use lib.IntN.{ℤ}
 use lib.ListN.{length, set}
 use Rattle.heads.specs.declared.head.Head.{Head}
 use Rattle.heads.specs.declared.head.Checked.{Checked}
-use Rattle.waiting.specs.declared.cursor.Kept.{Kept}
-use Rattle.waiting.specs.declared.cursor.Cursor.{Cursor}
+use Rattle.steps.specs.declared.cursor.Kept.{Kept}
+use Rattle.steps.specs.declared.cursor.Cursor.{Cursor}
 use Rattle.waiting.specs.declared.state.State.{State}
-use Rattle.waiting.specs.Steps.{Ready, next}
-use Rattle.waiting.specs.Runs.{Way, way, turned, went}
-use Rattle.waiting.proofs.Driving.{turns-left}
-use Rattle.waiting.proofs.Keeping.{next-fewer}
+use Rattle.steps.specs.Steps.{Ready, next}
+use Rattle.steps.specs.Runs.{Way, way, turned, went}
+use Rattle.steps.proofs.Driving.{turns-left}
+use Rattle.steps.proofs.Keeping.{next-fewer}
 use Rattle.records.specs.Runs.{answered, set-out, run-of}
 use Rattle.records.proofs.Turns.{Good, less, starts, turns, ends}
 use Rattle.plain.specs.Lists.{listed, relisted}

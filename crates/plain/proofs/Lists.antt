@@ -6,7 +6,7 @@ use native.Mathlib.Nat.{not-suc-le-zero}
 use native.Mathlib.Omega.{arith}
 use lib.ListN.{length, drop, set, length-append, length-drop, length-set}
 use lib.Seq.{sets, drop-cons, set-out, drop-drop, drop-at}
-use Rattle.waiting.specs.declared.cursor.Kept.{Kept}
+use Rattle.steps.specs.declared.cursor.Kept.{Kept}
 use Rattle.plain.specs.Lists.{seven, first, taken, listed, numbers, relisted, Listed-back}
 
 length-taken : (n : ℕ) (xs : List ℕ) → length (taken n xs) ≡ n

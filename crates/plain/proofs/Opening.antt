@@ -6,10 +6,10 @@ use lib.IntN.{ℤ}
 use lib.ListN.{length}
 use Rattle.heads.specs.declared.head.Head.{Head}
 use Rattle.heads.specs.declared.head.Checked.{Checked}
-use Rattle.waiting.specs.declared.cursor.Cursor.{Cursor}
+use Rattle.steps.specs.declared.cursor.Cursor.{Cursor}
 use Rattle.waiting.specs.declared.state.State.{State}
 use Rattle.waiting.specs.States.{judged}
-use Rattle.waiting.specs.Steps.{begun}
+use Rattle.steps.specs.Steps.{begun}
 use Rattle.records.specs.Runs.{opened}
 use Rattle.plain.specs.Lists.{listed}
 

@@ -8,10 +8,10 @@ use lib.IntN.{ℤ}
 use lib.ListN.{length, set}
 use Rattle.heads.specs.declared.head.Head.{Head}
 use Rattle.heads.specs.declared.head.Checked.{Checked}
-use Rattle.waiting.specs.declared.cursor.Cursor.{Cursor}
+use Rattle.steps.specs.declared.cursor.Cursor.{Cursor}
 use Rattle.waiting.specs.declared.state.State.{State}
-use Rattle.waiting.specs.declared.step.Made.{Made}
-use Rattle.waiting.specs.Steps.{Ready, due, next, seen}
+use Rattle.steps.specs.declared.step.Made.{Made}
+use Rattle.steps.specs.Steps.{Ready, due, next, seen}
 use Rattle.records.specs.Visits.{unseen, told, One, one, visit-of}
 use Rattle.plain.specs.Lists.{listed, relisted}
 use Rattle.plain.proofs.Lists.{same-listed}

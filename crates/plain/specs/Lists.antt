@@ -4,7 +4,7 @@ use Prim.Native.Nat.{ℕ, zero, suc, _*_, _/_}
 use mathlib.Core.Path.{_≡_}
 use mathlib.Core.List.{List, [], _∷_, _++_}
 use lib.ListN.{length, drop, getD}
-use Rattle.waiting.specs.declared.cursor.Kept.{Kept}
+use Rattle.steps.specs.declared.cursor.Kept.{Kept}
 
 abbrev pub seven : Kept → List ℕ
 seven k = k .s1 ∷ k .k1 ∷ k .s2 ∷ k .k2 ∷ k .s3 ∷ k .k3 ∷ k .mark ∷ []

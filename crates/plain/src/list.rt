@@ -1,5 +1,5 @@
 // A list of kept boxes as numbers, seven to a record: s1, k1, s2, k2, s3, k3, mark. Numbers behind the last whole record are no part of it.
-use waiting::cursor::Kept;
+use steps::cursor::Kept;
 ghost use mathlib.Core.Path.{_≡_};
 ghost use lib.ListN.{length, set};
 ghost use Rattle.plain.specs.Lists.{listed, relisted};

@@ -12,10 +12,10 @@ use borrow.Author.Needs.{scaled-fits}
 use denote.Laws.{Is}
 use denote.Slice.{Room}
 use denote.Struct.Laws as LL
-use Rattle.waiting.specs.declared.cursor.Kept.{Kept}
-use Rattle.waiting.specs.Steps.{nothing-kept}
-use Rattle.waiting.proofs.cursor.Kept as entry-type
-use Rattle.waiting.proofs.cursor.Kept.Laws as entry-laws
+use Rattle.steps.specs.declared.cursor.Kept.{Kept}
+use Rattle.steps.specs.Steps.{nothing-kept}
+use Rattle.steps.proofs.cursor.Kept as entry-type
+use Rattle.steps.proofs.cursor.Kept.Laws as entry-laws
 use Rattle.records.proofs.Passed.{entry, Rec}
 
 -- a record past the end fits its type

@@ -9,16 +9,16 @@ use Rattle.heads.proofs.head.Head as head-type
 use Rattle.heads.proofs.head.Head.Laws as head-laws
 use Rattle.heads.proofs.head.Checked as verdict-type
 use Rattle.heads.proofs.head.Checked.Laws as verdict-laws
-use Rattle.waiting.specs.declared.cursor.Cursor.{Cursor}
-use Rattle.waiting.proofs.cursor.Kept as entry-type
-use Rattle.waiting.proofs.cursor.Kept.Laws as entry-laws
-use Rattle.waiting.proofs.cursor.Cursor as cursor-type
-use Rattle.waiting.proofs.cursor.Cursor.Laws as cursor-laws
+use Rattle.steps.specs.declared.cursor.Cursor.{Cursor}
+use Rattle.steps.proofs.cursor.Kept as entry-type
+use Rattle.steps.proofs.cursor.Kept.Laws as entry-laws
+use Rattle.steps.proofs.cursor.Cursor as cursor-type
+use Rattle.steps.proofs.cursor.Cursor.Laws as cursor-laws
 use Rattle.waiting.proofs.state.State as state-type
 use Rattle.waiting.proofs.state.State.Laws as state-laws
-use Rattle.waiting.specs.declared.step.Made.{Made}
-use Rattle.waiting.proofs.step.Made as made-type
-use Rattle.waiting.proofs.step.Made.Laws as made-laws
+use Rattle.steps.specs.declared.step.Made.{Made}
+use Rattle.steps.proofs.step.Made as made-type
+use Rattle.steps.proofs.step.Made.Laws as made-laws
 use Rattle.records.proofs.visits.Answer as seen-type
 use Rattle.records.proofs.visits.Answer.Laws as seen-laws
 use Rattle.records.proofs.runs.Answer as answer-type

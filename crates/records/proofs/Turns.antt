@@ -12,15 +12,15 @@ use lib.Dec.{T as Holds}
 use Rattle.heads.specs.declared.head.Head.{Head}
 use Rattle.heads.specs.declared.head.Checked.{Checked}
 use Rattle.heads.specs.declared.head.Checked.the-variants.{Good as Is-good, Refused}
-use Rattle.waiting.specs.declared.cursor.Kept.{Kept}
-use Rattle.waiting.specs.declared.cursor.Cursor.{Cursor}
+use Rattle.steps.specs.declared.cursor.Kept.{Kept}
+use Rattle.steps.specs.declared.cursor.Cursor.{Cursor}
 use Rattle.waiting.specs.declared.state.State.{State}
-use Rattle.waiting.specs.declared.step.Due.{Due}
+use Rattle.steps.specs.declared.step.Due.{Due}
 use Rattle.waiting.specs.States.{judged}
-use Rattle.waiting.specs.Steps.{Ready, begun, due, by-due, next}
-use Rattle.waiting.specs.Runs.{Way, turned, went}
-use Rattle.waiting.proofs.Keeping.{ready-next, judged-ready}
-use Rattle.waiting.proofs.Turning.{Says-due, due-says}
+use Rattle.steps.specs.Steps.{Ready, begun, due, by-due, next}
+use Rattle.steps.specs.Runs.{Way, turned, went}
+use Rattle.steps.proofs.Keeping.{ready-next, judged-ready}
+use Rattle.steps.proofs.Turning.{Says-due, due-says}
 use Rattle.records.specs.Runs.{opened, set-out, run-of}
 
 pub record Good (h : Head) (n m : ℕ) (end : Way) (f : ℕ) (w : Way) : Type 0 where

@@ -9,11 +9,11 @@ use Rattle.heads.specs.declared.head.Checked.{Checked}
 use Rattle.heads.specs.declared.head.Checked.the-variants.{Good, Refused as Stopped-by}
 use Rattle.boxes.specs.declared.visit.Word.{Word}
 use Rattle.waiting.specs.declared.state.State.{State}
-use Rattle.waiting.specs.declared.cursor.Kept.{Kept}
-use Rattle.waiting.specs.declared.cursor.Cursor.{Cursor}
+use Rattle.steps.specs.declared.cursor.Kept.{Kept}
+use Rattle.steps.specs.declared.cursor.Cursor.{Cursor}
 use Rattle.waiting.specs.States.{judged}
-use Rattle.waiting.specs.Steps.{begun, halted}
-use Rattle.waiting.specs.Runs.{Way, way, went}
+use Rattle.steps.specs.Steps.{begun, halted}
+use Rattle.steps.specs.Runs.{Way, way, went}
 use Rattle.records.specs.declared.runs.Answer.{Answer}
 use Rattle.records.specs.declared.runs.Answer.the-variants.{Stopped, Refused}
 

@@ -9,12 +9,12 @@ use Rattle.heads.specs.declared.head.Head.{Head}
 use Rattle.heads.specs.declared.head.Checked.{Checked}
 use Rattle.heads.specs.declared.head.Checked.the-variants.{Good, Refused as Stopped-by}
 use Rattle.waiting.specs.declared.state.State.{State}
-use Rattle.waiting.specs.declared.cursor.Kept.{Kept}
-use Rattle.waiting.specs.declared.cursor.Cursor.{Cursor}
-use Rattle.waiting.specs.declared.step.Made.{Made}
+use Rattle.steps.specs.declared.cursor.Kept.{Kept}
+use Rattle.steps.specs.declared.cursor.Cursor.{Cursor}
+use Rattle.steps.specs.declared.step.Made.{Made}
 use Rattle.waiting.specs.States.{judged}
-use Rattle.waiting.specs.Steps.{begun, due, next, no-visit, seen}
-use Rattle.waiting.specs.Runs.{Way, way, turned}
+use Rattle.steps.specs.Steps.{begun, due, next, no-visit, seen}
+use Rattle.steps.specs.Runs.{Way, way, turned}
 use Rattle.records.specs.declared.visits.Answer.{Answer}
 use Rattle.records.specs.declared.visits.Answer.the-variants.{Saw, Stopped, Refused}
 use Rattle.records.specs.Runs.{opened}

@@ -1,8 +1,8 @@
 // The list of kept boxes that the caller lends: one record is stored, or read. A place past the end stores nothing and reads as a record of zeros, so a caller needs no test.
-use waiting::cursor::Kept;
+use steps::cursor::Kept;
 ghost use mathlib.Core.Path.{_≡_};
 ghost use lib.ListN.{length, set, getD};
-ghost use Rattle.waiting.specs.Steps.{nothing-kept};
+ghost use Rattle.steps.specs.Steps.{nothing-kept};
 
 pub fn room(list: &[Kept]) -> usize
     ensures { λ r. ⌜ r ≡ length (now (list .entry)) ⌝ }

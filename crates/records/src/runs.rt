@@ -4,15 +4,15 @@ use boxes::visit::Word;
 use heads::head::Checked;
 use heads::head::Head;
 use heads::refusal::Refused;
-use waiting::cursor::Cursor;
-use waiting::cursor::Kept;
-use waiting::cursor::begin;
-use waiting::cursor::halt;
+use steps::cursor::Cursor;
+use steps::cursor::Kept;
+use steps::cursor::begin;
+use steps::cursor::halt;
+use steps::step::step;
 use waiting::state::State;
 use waiting::state::check;
-use waiting::step::step;
 ghost use mathlib.Core.Path.{_≡_};
-ghost use Rattle.waiting.specs.Steps.{begun};
+ghost use Rattle.steps.specs.Steps.{begun};
 ghost use Rattle.records.specs.Runs.{opened, answered, run-of};
 
 pub struct Stop {

@@ -1,7 +1,7 @@
 // A kept box as the table builder wants it: middles and half widths, or refusal 10 for a record that is no box.
 use boxes::half::Box;
 use boxes::middle::Placed;
-use waiting::cursor::Kept;
+use steps::cursor::Kept;
 ghost use mathlib.Core.Path.{_≡_};
 ghost use Rattle.boxes.specs.Middles.{placed};
 ghost use Rattle.records.specs.Tables.{box-of};

@@ -8,12 +8,12 @@ use boxes::visit::Word;
 use heads::head::Checked;
 use heads::head::Head;
 use heads::refusal::Refused;
-use waiting::cursor::Cursor;
-use waiting::cursor::Kept;
+use steps::cursor::Cursor;
+use steps::cursor::Kept;
+use steps::step::Made;
+use steps::step::step_seen;
 use waiting::state::State;
 use waiting::state::check;
-use waiting::step::Made;
-use waiting::step::step_seen;
 ghost use mathlib.Core.Path.{_≡_};
 ghost use Rattle.records.specs.Visits.{unseen, told, visit-of};
 

@@ -3,9 +3,5 @@ pub mod Fitting
 pub mod Sounds
 pub mod Judging
 pub mod Standing
-pub mod Turning
-pub mod Driving
-pub mod Keeping
 pub mod Starting
 pub mod Slotting
-pub mod Becoming

@@ -22,7 +22,7 @@ use Rattle.waiting.specs.Cells.{cells}
 use Rattle.waiting.specs.Fits.{Fit}
 use Rattle.waiting.specs.States.{needed, SlotAllowed}
 use Rattle.waiting.specs.Starts.{start-check, fresh-state, fresh-store, Start-allowed}
-use Rattle.waiting.specs.Steps.{memory-of}
+use Rattle.waiting.specs.States.{memory-of}
 use Rattle.waiting.proofs.Fitting.{unit-fit}
 use Rattle.waiting.proofs.Judging.{_then-passes_, head-passes, le-passes, true-passes, every-says}
 use Rattle.waiting.proofs.Standing.{unit-allowed}

@@ -10,14 +10,18 @@ use lib.IntN.{ℤ, pos, natAbs}
 use lib.ListN.{length}
 use lib.Signed.{leZ}
 use Rattle.bernstein.specs.Three.{Direction, _!_}
+use Rattle.bernstein.specs.Numbers.{Box}
 use Rattle.heads.specs.declared.refusal.Refusal.{Refusal}
+use Rattle.boxes.specs.declared.half.Direction as Half
+use Rattle.boxes.specs.Boxes.{direction}
 use Rattle.heads.specs.declared.head.Head.{Head}
 use Rattle.heads.specs.declared.head.Checked.{Checked}
 use Rattle.heads.specs.Directions.{each}
 use Rattle.heads.specs.Heads.{depths, depth, width, Limits, checked}
-use Rattle.patch.specs.Slots.{at, column, box-in, numbers, SpanFits}
-use Rattle.patch.specs.Rules.{every, within}
-use Rattle.search.specs.Lent.{slot}
+use Rattle.patch.specs.Slots.{at, column, box-in, numbers, SpanFits, SlotFits}
+use Rattle.patch.specs.Rules.{every, within, can-cut}
+use Rattle.search.specs.Search.{Entry}
+use Rattle.search.specs.Lent.{slot, Lent, memory}
 use Rattle.heads.specs.Chain.{test, _then_}
 use Rattle.waiting.specs.declared.state.State.{State}
 
@@ -32,6 +36,13 @@ cuts l = box-in l .x₁ .cuts + box-in l .x₂ .cuts + box-in l .x₃ .cuts
 -- (D + 1) × (6 + m × S)
 abbrev pub needed : Head → ℕ
 needed h = suc (depth h) * width h
+
+-- ---- a state as the counts of lent memory
+abbrev pub memory-of : List ℤ → List (Entry Box) → State → Lent ℤ Box
+memory-of st list s = memory st list (s .waiting) (s .kept) (s .visits) (s .dropped)
+
+abbrev pub state-of : Lent ℤ Box → State
+state-of f = record { waiting = f .waiting; kept = f .kept; visits = f .visits; dropped = f .dropped }
 
 -- ---- as tests
 -- a bad s or k: s above g, k not below 2^s, a negative one
@@ -73,3 +84,9 @@ pub record Allowed (h : Head) (s : State) (st : List ℤ) (room : ℕ) : Type 0 
 -- A state is let through exactly if the head is within limits, the store is long enough, and the rules allow the state.
 abbrev pub Judged-allowed : Type 0
 Judged-allowed = (h : Head) (s : State) (st : List ℤ) (room : ℕ) → (judged h s st room ≡ Checked.Good) ↔ (Limits h × (needed h ≤ length st) × Allowed h s st room)
+
+-- A slot that may be cut in direction r, as `cut` asks it.
+pub record MayCut (h : Head) (r : Half.Direction) (l : List ℤ) : Type 0 where
+  pub fits : SlotFits h l
+  pub below : (box-in l ! direction r) .cuts < depths h ! direction r
+  pub can : can-cut h (direction r) l ≡ true

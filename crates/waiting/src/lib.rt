@@ -1,6 +1,4 @@
-// The waiting store: a start, the check of a state, one visit, and the run's core on plain numbers.
-pub mod cursor;
+// The waiting store: its slots, a start, and the check of a state.
 pub mod slots;
 pub mod start;
 pub mod state;
-pub mod step;

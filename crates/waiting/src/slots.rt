@@ -22,7 +22,7 @@ ghost use Rattle.patch.specs.Rules.{looked};
 ghost use Rattle.search.specs.Lent.{slot, in-slot, given-up};
 ghost use Rattle.waiting.specs.Cells.{cells};
 ghost use Rattle.waiting.specs.States.{needed, span-ok, slot-ok, slots-ok};
-ghost use Rattle.waiting.specs.Steps.{MayCut};
+ghost use Rattle.waiting.specs.States.{MayCut};
 
 // Whether a store of that length has the D + 1 slots.
 pub fn long_enough(h: Head, length: usize) -> bool

@@ -4,7 +4,7 @@ use boxes::visit::Visit;
 use boxes::visit::Word;
 use heads::refusal::Refused;
 use libc::STDOUT_FILENO;
-use waiting::cursor::Kept;
+use steps::cursor::Kept;
 use waiting::state::State;
 
 pub fn word(w: &[u8]) {

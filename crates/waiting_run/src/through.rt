@@ -2,17 +2,17 @@
 use crate::show;
 use heads::head::Checked;
 use heads::head::Head;
-use waiting::cursor::Cursor;
-use waiting::cursor::begin;
+use steps::cursor::Cursor;
+use steps::cursor::begin;
+use steps::step::step;
+use steps::step::step_seen;
 use waiting::start::Started;
 use waiting::state::State;
 use waiting::state::check;
-use waiting::step::step;
-use waiting::step::step_seen;
 ghost use mathlib.Core.Path.{_≡_};
 ghost use Rattle.heads.specs.declared.head.Checked.the-variants.{Good};
 ghost use Rattle.waiting.specs.States.{judged};
-ghost use Rattle.waiting.specs.Steps.{Ready};
+ghost use Rattle.steps.specs.Steps.{Ready};
 
 // A start; nothing waits where it is refused.
 pub fn begun(h: Head, coefficients: &[i64], store: &mut [i64]) -> State {

@@ -4,8 +4,8 @@ use mathlib.Core.Path.{_∙_}
 use native.Mathlib.Omega.{arith}
 use borrow.Author.Needs.{needs}
 use lib.ListN.{length}
-use Rattle.waiting.specs.Runs.{way, went}
-use Rattle.waiting.proofs.Driving.{turns-left}
+use Rattle.steps.specs.Runs.{way, went}
+use Rattle.steps.proofs.Driving.{turns-left}
 use Rattle.plain.specs.Lists.{listed}
 use Rattle.plain.proofs.Lists.{length-listed}
 use Rattle.plain.proofs.Opening.{opens}

@@ -19,10 +19,10 @@ use denote.Laws.{Is, shows}
 use denote.Index.{place-is, elem-out, elem-back, looks-slice, shuts-slice}
 use denote.Struct.Laws as LL
 use denote.Triple.Walked.{says}
-use Rattle.waiting.specs.declared.cursor.Kept.{Kept}
-use Rattle.waiting.specs.Steps.{nothing-kept}
-use Rattle.waiting.proofs.cursor.Kept as entry-type
-use Rattle.waiting.proofs.cursor.Kept.Laws as entry-laws
+use Rattle.steps.specs.declared.cursor.Kept.{Kept}
+use Rattle.steps.specs.Steps.{nothing-kept}
+use Rattle.steps.proofs.cursor.Kept as entry-type
+use Rattle.steps.proofs.cursor.Kept.Laws as entry-laws
 use Rattle.walks.proofs.Closing.{closes}
 use Rattle.walks.proofs.Data.{number, value, shown, stays, all-go, spelled, told, typed, slice-typed}
 use Rattle.walks.proofs.Edges.{enters, ends-datum}

@@ -19,8 +19,8 @@ use denote.Laws.{Is, shows}
 use denote.Slice.{sliceVal, Room, at-slice, slice-vals}
 use denote.Index.{place-is, elem-out, elem-put, opens-slice, closes-slice}
 use denote.Triple.Walked.{says}
-use Rattle.waiting.specs.declared.cursor.Kept.{Kept}
-use Rattle.waiting.specs.Steps.{nothing-kept}
+use Rattle.steps.specs.declared.cursor.Kept.{Kept}
+use Rattle.steps.specs.Steps.{nothing-kept}
 use Rattle.walks.proofs.Closing.{closes}
 use Rattle.walks.proofs.Data.{number, nothing, value, lent, stays, all-go, spelled, told, typed, slice-typed}
 use Rattle.walks.proofs.Edges.{enters, ends-datum, made}

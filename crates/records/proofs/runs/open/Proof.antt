@@ -4,8 +4,8 @@ use mathlib.Core.Path.{sym, ap, _∙_}
 use borrow.Author.Needs.{needs}
 use Rattle.heads.specs.declared.head.Checked.{Checked}
 use Rattle.boxes.specs.declared.visit.Word.{Word}
-use Rattle.waiting.specs.declared.cursor.Cursor.{Cursor}
-use Rattle.waiting.specs.Steps.{begun, halted}
+use Rattle.steps.specs.declared.cursor.Cursor.{Cursor}
+use Rattle.steps.specs.Steps.{begun, halted}
 use Rattle.records.specs.Runs.{opened}
 use Rattle.records.proofs.runs.open.Statement.{statement}
 use Rattle.records.proofs.runs.open.Tie as tie

@@ -36,18 +36,18 @@ use denote.Triple.Table.{cited}
 use denote.Triple.Walked.{says}
 use Rattle.heads.specs.declared.head.Head.{Head}
 use Rattle.heads.specs.declared.head.Checked.{Checked}
-use Rattle.waiting.specs.declared.cursor.Kept.{Kept}
-use Rattle.waiting.specs.declared.cursor.Cursor.{Cursor}
+use Rattle.steps.specs.declared.cursor.Kept.{Kept}
+use Rattle.steps.specs.declared.cursor.Cursor.{Cursor}
 use Rattle.waiting.specs.declared.state.State.{State}
 use Rattle.waiting.specs.States.{judged}
-use Rattle.waiting.specs.Steps.{Ready, begun, next}
-use Rattle.waiting.specs.Runs.{Way, turned}
+use Rattle.steps.specs.Steps.{Ready, begun, next}
+use Rattle.steps.specs.Runs.{Way, turned}
 use Rattle.waiting.proofs.state.check as checks
 use Rattle.waiting.proofs.state.check.Symbol as check-def
 use Rattle.waiting.proofs.state.check.Met as check-thm
-use Rattle.waiting.proofs.step.step as steps
-use Rattle.waiting.proofs.step.step.Symbol as step-def
-use Rattle.waiting.proofs.step.step.Met as step-thm
+use Rattle.steps.proofs.step.step as steps
+use Rattle.steps.proofs.step.step.Symbol as step-def
+use Rattle.steps.proofs.step.step.Met as step-thm
 use Rattle.records.specs.declared.runs.Answer.{Answer}
 use Rattle.records.specs.Runs.{opened, answered, set-out, run-of}
 use Rattle.records.proofs.list.put as puts
@@ -174,7 +174,7 @@ run-spec 𝓤 H 𝓜 𝓖 𝓡 =
     (record {
       check-met = cited 𝓤 H (Check 𝓤 H (𝓖 .A) (𝓜 .mem) (𝓡 .run)) 𝓜 𝓡 code.env check-def.name check-def.routine code.calls-waiting·state·check (check-thm.met 𝓤 H 𝓜 𝓖 𝓡);
       open-met = cited 𝓤 H (Open 𝓤 H (𝓖 .A) (𝓜 .mem) (𝓡 .run)) 𝓜 𝓡 code.env open-def.name open-def.routine code.calls-records·runs·open (open-thm.met 𝓤 H 𝓜 𝓖 𝓡);
-      step-met = cited 𝓤 H (Step 𝓤 H (𝓖 .A) (𝓜 .mem) (𝓡 .run)) 𝓜 𝓡 code.env step-def.name step-def.routine code.calls-waiting·step·step (step-thm.met 𝓤 H 𝓜 𝓖 𝓡);
+      step-met = cited 𝓤 H (Step 𝓤 H (𝓖 .A) (𝓜 .mem) (𝓡 .run)) 𝓜 𝓡 code.env step-def.name step-def.routine code.calls-steps·step·step (step-thm.met 𝓤 H 𝓜 𝓖 𝓡);
       put-met = cited 𝓤 H (Put 𝓤 H (𝓖 .A) (𝓜 .mem) (𝓡 .run)) 𝓜 𝓡 code.env put-def.name put-def.routine code.calls-records·list·put (put-thm.met 𝓤 H 𝓜 𝓖 𝓡);
       close-met = cited 𝓤 H (Close 𝓤 H (𝓖 .A) (𝓜 .mem) (𝓡 .run)) 𝓜 𝓡 code.env close-def.name close-def.routine code.calls-records·runs·close (close-thm.met 𝓤 H 𝓜 𝓖 𝓡);
     })

@@ -2,8 +2,8 @@
 use mathlib.Core.Path.{refl}
 use borrow.Author.Tests.{le-leb, lt-leb}
 use borrow.Author.Needs.{needs}
-use Rattle.waiting.proofs.step.for_room.Statement.{statement}
-use Rattle.waiting.proofs.step.for_room.Tie as tie
+use Rattle.steps.proofs.step.for_room.Statement.{statement}
+use Rattle.steps.proofs.step.for_room.Tie as tie
 
 returns : tie.Need-returns
 returns c =

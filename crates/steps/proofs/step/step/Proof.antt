@@ -1,9 +1,9 @@
 -- `step` meets its contract. Assumes nothing.
 use mathlib.Core.Path.{_∙_}
 use borrow.Author.Needs.{needs}
-use Rattle.waiting.proofs.Becoming.{stop-cursor, stop-store, may-make, made}
-use Rattle.waiting.proofs.step.step.Statement.{statement}
-use Rattle.waiting.proofs.step.step.Tie as tie
+use Rattle.steps.proofs.Becoming.{stop-cursor, stop-store, may-make, made}
+use Rattle.steps.proofs.step.step.Statement.{statement}
+use Rattle.steps.proofs.step.step.Tie as tie
 
 make-requires : tie.Need-make-requires
 make-requires c κs =

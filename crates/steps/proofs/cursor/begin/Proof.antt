@@ -1,8 +1,8 @@
 -- `begin` meets its contract. Assumes nothing.
 use mathlib.Core.Path.{refl}
 use borrow.Author.Needs.{needs}
-use Rattle.waiting.proofs.cursor.begin.Statement.{statement}
-use Rattle.waiting.proofs.cursor.begin.Tie as tie
+use Rattle.steps.proofs.cursor.begin.Statement.{statement}
+use Rattle.steps.proofs.cursor.begin.Tie as tie
 
 returns : tie.Need-returns
 returns c = rw (c .nothing-kept .ensures) refl

@@ -21,13 +21,13 @@ use Rattle.patch.proofs.Chosen.{CutIn, cut-in}
 use Rattle.search.specs.Machine.{Turn, nothing, no-room, go}
 use Rattle.search.specs.Search.{turn-look, turn-top}
 use Rattle.search.specs.Lent.{stack, slots}
 use Rattle.waiting.specs.Cells.{as-look, cells, left}
 use Rattle.waiting.specs.States.{SlotAllowed}
-use Rattle.waiting.specs.Steps.{top, for-room, due, Ready, MayVisit}
-use Rattle.waiting.specs.declared.cursor.Cursor.{Cursor}
-use Rattle.waiting.specs.declared.step.Due.{Due}
+use Rattle.steps.specs.Steps.{top, for-room, due, Ready, MayVisit}
+use Rattle.steps.specs.declared.cursor.Cursor.{Cursor}
+use Rattle.steps.specs.declared.step.Due.{Due}
 use Rattle.waiting.proofs.Measures.{measured}
 use Rattle.waiting.proofs.Standing.{slot-left}
 
 -- ---- what is due, taken apart
 module _ (h : Head) (st : List ℤ) (c : Cursor) where

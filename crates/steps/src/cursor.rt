@@ -1,11 +1,11 @@
 // Where a run stands, by value: the state, what is left of the budget, and which record goes where in the list.
-use crate::state::State;
 use boxes::half::Box;
 use boxes::visit::Word;
+use waiting::state::State;
 ghost use mathlib.Core.Path.{_≡_};
 ghost use Prim.Native.Nat.{_≤_};
 ghost use Rattle.boxes.specs.Boxes.{as-box};
-ghost use Rattle.waiting.specs.Steps.{kept-of, nothing-kept, begun, halted, gone-on};
+ghost use Rattle.steps.specs.Steps.{kept-of, nothing-kept, begun, halted, gone-on};
 
 // A kept box, as the list has it.
 pub struct Kept {

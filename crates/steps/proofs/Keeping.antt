@@ -18,18 +18,19 @@ use Rattle.search.specs.Lent.{stack, slots, Lent, lent, held, Enough, Holds, le
 use Rattle.search.proofs.Search.{visit-keeps, run-keeps}
 use Rattle.search.proofs.Lent.{lent-simulates, lent-runs, stacked-length}
 use Rattle.search.proofs.Slots.{stack-length}
 use Rattle.waiting.specs.Cells.{cells, left}
 use Rattle.waiting.specs.States.{needed, Allowed, judged}
-use Rattle.waiting.specs.Steps.{memory-of, state-of, begun, due, visited, moved, by-due, next, Ready}
-use Rattle.waiting.specs.Runs.{Stops-allowed}
+use Rattle.waiting.specs.States.{memory-of, state-of}
+use Rattle.steps.specs.Steps.{begun, due, visited, moved, by-due, next, Ready}
+use Rattle.steps.specs.Runs.{Stops-allowed}
 use Rattle.waiting.specs.declared.state.State.{State}
-use Rattle.waiting.specs.declared.cursor.Cursor.{Cursor}
-use Rattle.waiting.specs.declared.step.Due.{Due}
+use Rattle.steps.specs.declared.cursor.Cursor.{Cursor}
+use Rattle.steps.specs.declared.step.Due.{Due}
 use Rattle.waiting.proofs.Measures.{measured}
 use Rattle.waiting.proofs.Judging.{AllAllowed, judged-allowed}
 use Rattle.waiting.proofs.Standing.{to-stack, from-stack, stacked, Stands, stands-closed}
-use Rattle.waiting.proofs.Turning.{Visits, Says-due, due-says, turn-go}
-use Rattle.waiting.proofs.Driving.{turn-is, then, visit-is, turns-left}
+use Rattle.steps.proofs.Turning.{Visits, Says-due, due-says, turn-go}
+use Rattle.steps.proofs.Driving.{turn-is, then, visit-is, turns-left}
 
 -- ---- lent memory that an allowed state stands in
 module _ (h : Head) where

@@ -4,18 +4,18 @@ use crate::cursor::go_on;
 use crate::cursor::halt;
 use crate::cursor::listed;
 use crate::cursor::nothing_kept;
-use crate::slots::box_at;
-use crate::slots::cut_at;
-use crate::slots::give_up;
-use crate::slots::look_at;
-use crate::state::State;
 use boxes::half::Box;
 use boxes::visit::Outcome;
 use boxes::visit::Visit;
 use boxes::visit::Word;
 use heads::head::Head;
+use waiting::slots::box_at;
+use waiting::slots::cut_at;
+use waiting::slots::give_up;
+use waiting::slots::look_at;
+use waiting::state::State;
 ghost use mathlib.Core.Path.{_≡_};
-ghost use Rattle.waiting.specs.Steps.{halted, for-room, due, moved, next, no-visit, seen, Ready, MayVisit};
+ghost use Rattle.steps.specs.Steps.{halted, for-room, due, moved, next, no-visit, seen, Ready, MayVisit};
 
 // What the rules say before a visit: a stop, or what becomes of the top box.
 pub enum Due {

@@ -15,12 +15,13 @@ use Rattle.patch.specs.Rules.{looked}
 use Rattle.search.specs.Machine.{Answer, finished, spent, full, Turn, nothing, no-room, go, Stop, drive}
 use Rattle.search.specs.Search.{Entry, entry}
 use Rattle.search.specs.Lent.{Lent, lent}
 use Rattle.waiting.specs.Cells.{cells}
 use Rattle.waiting.specs.States.{needed, Allowed}
-use Rattle.waiting.specs.Steps.{kept-of, memory-of, state-of, halted, top, due, Next, next, visit-of, seen}
+use Rattle.waiting.specs.States.{memory-of, state-of}
+use Rattle.steps.specs.Steps.{kept-of, halted, top, due, Next, next, visit-of, seen}
 use Rattle.waiting.specs.declared.state.State.{State}
-use Rattle.waiting.specs.declared.cursor.Kept.{Kept}
-use Rattle.waiting.specs.declared.cursor.Cursor.{Cursor}
+use Rattle.steps.specs.declared.cursor.Kept.{Kept}
+use Rattle.steps.specs.declared.cursor.Cursor.{Cursor}
 
 -- what a driver has before a turn
 pub record Way : Type 0 where

@@ -1,9 +1,9 @@
 -- `step_seen` meets its contract. Assumes nothing.
 use mathlib.Core.Path.{_∙_}
 use borrow.Author.Needs.{needs}
-use Rattle.waiting.proofs.Becoming.{stop-cursor, stop-store, stop-seen, may-make, made, visit-seen}
-use Rattle.waiting.proofs.step.step_seen.Statement.{statement}
-use Rattle.waiting.proofs.step.step_seen.Tie as tie
+use Rattle.steps.proofs.Becoming.{stop-cursor, stop-store, stop-seen, may-make, made, visit-seen}
+use Rattle.steps.proofs.step.step_seen.Statement.{statement}
+use Rattle.steps.proofs.step.step_seen.Tie as tie
 
 sub-box-at : tie.Need-sub-box-at
 sub-box-at c =

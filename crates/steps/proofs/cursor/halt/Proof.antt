@@ -1,8 +1,8 @@
 -- `halt` meets its contract. Assumes nothing.
 use mathlib.Core.Path.{refl}
 use borrow.Author.Needs.{needs}
-use Rattle.waiting.proofs.cursor.halt.Statement.{statement}
-use Rattle.waiting.proofs.cursor.halt.Tie as tie
+use Rattle.steps.proofs.cursor.halt.Statement.{statement}
+use Rattle.steps.proofs.cursor.halt.Tie as tie
 
 returns : tie.Need-returns
 returns c = rw (c .nothing-kept .ensures) refl

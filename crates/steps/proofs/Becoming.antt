@@ -15,14 +15,14 @@ use Rattle.boxes.specs.declared.visit.Visit.{Visit}
 use Rattle.boxes.specs.Boxes.{direction}
 use Rattle.patch.specs.Slots.{box-in, half-slot}
 use Rattle.search.specs.Lent.{in-slot, given-up, lent-become}
 use Rattle.waiting.specs.Cells.{cells}
-use Rattle.waiting.specs.Steps.{kept-of, nothing-kept, halted, gone-on, top, due, visited, moved, next, visit-of, no-visit, seen, Ready, MayVisit}
+use Rattle.steps.specs.Steps.{kept-of, nothing-kept, halted, gone-on, top, due, visited, moved, next, visit-of, no-visit, seen, Ready, MayVisit}
 use Rattle.waiting.specs.declared.state.State.{State}
-use Rattle.waiting.specs.declared.cursor.Kept.{Kept}
-use Rattle.waiting.specs.declared.cursor.Cursor.{Cursor}
-use Rattle.waiting.specs.declared.step.Due.{Due}
-use Rattle.waiting.proofs.Turning.{Says-due, due-says, may-visit}
-use Rattle.waiting.proofs.Driving.{next-by}
+use Rattle.steps.specs.declared.cursor.Kept.{Kept}
+use Rattle.steps.specs.declared.cursor.Cursor.{Cursor}
+use Rattle.steps.specs.declared.step.Due.{Due}
+use Rattle.steps.proofs.Turning.{Says-due, due-says, may-visit}
+use Rattle.steps.proofs.Driving.{next-by}
 
 abbrev state : (waiting kept visits dropped : ℕ) → State
 state w k v d = record { waiting = w; kept = k; visits = v; dropped = d }
@@ -59,10 +59,10 @@ module _ (h : Head) (st : List ℤ) (c : Cursor) {k : Kept} {r : Cursor} {st′ 
 module _ (h : Head) (st : List ℤ) (c : Cursor) {d : Due} (e : d ≡ due h st c) where
   module _ {w : Word} (f : d ≡ Due.Stop w) where
     pub stop-cursor : halted c w ≡ next h st c .cursor
-    stop-cursor = ap (λ (n : Rattle.waiting.specs.Steps.Next). n .cursor) (sym (next-by h st c (Due.Stop w) (sym e ∙ f)))
+    stop-cursor = ap (λ (n : Rattle.steps.specs.Steps.Next). n .cursor) (sym (next-by h st c (Due.Stop w) (sym e ∙ f)))
 
     pub stop-store : st ≡ next h st c .store
-    stop-store = ap (λ (n : Rattle.waiting.specs.Steps.Next). n .store) (sym (next-by h st c (Due.Stop w) (sym e ∙ f)))
+    stop-store = ap (λ (n : Rattle.steps.specs.Steps.Next). n .store) (sym (next-by h st c (Due.Stop w) (sym e ∙ f)))
 
     pub stop-seen : no-visit ≡ seen h st c (due h st c)
     stop-seen = ap (seen h st c) (sym (sym e ∙ f))

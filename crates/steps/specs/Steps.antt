@@ -17,15 +17,15 @@ use Rattle.boxes.specs.declared.visit.Word.{Word}
 use Rattle.heads.specs.Heads.{depths, width, Limits}
 use Rattle.boxes.specs.Boxes.{direction, from-box}
 use Rattle.patch.specs.Slots.{box-in, SlotFits}
-use Rattle.patch.specs.Rules.{can-cut, looked}
+use Rattle.patch.specs.Rules.{looked}
 use Rattle.search.specs.Search.{Entry}
-use Rattle.search.specs.Lent.{slot, Lent, memory, lent-become}
+use Rattle.search.specs.Lent.{slot, Lent, lent-become}
 use Rattle.waiting.specs.declared.state.State.{State}
-use Rattle.waiting.specs.declared.cursor.Kept.{Kept}
-use Rattle.waiting.specs.declared.cursor.Cursor.{Cursor}
-use Rattle.waiting.specs.declared.step.Due.{Due}
+use Rattle.steps.specs.declared.cursor.Kept.{Kept}
+use Rattle.steps.specs.declared.cursor.Cursor.{Cursor}
+use Rattle.steps.specs.declared.step.Due.{Due}
 use Rattle.waiting.specs.Cells.{as-look, cells}
-use Rattle.waiting.specs.States.{needed, SlotAllowed}
+use Rattle.waiting.specs.States.{memory-of, state-of, needed, SlotAllowed, MayCut}
 
 -- ---- records of the list
 abbrev pub kept-of : Box → ℕ → Kept
@@ -33,13 +33,6 @@ kept-of b mark = record { s1 = b .x₁ .cuts; k1 = b .x₁ .position; s2 = b .x�
 
 abbrev pub nothing-kept : Kept
 nothing-kept = kept-of unit 0
-
--- ---- a state as the counts of lent memory
-abbrev pub memory-of : List ℤ → List (Entry Box) → State → Lent ℤ Box
-memory-of st list s = memory st list (s .waiting) (s .kept) (s .visits) (s .dropped)
-
-abbrev pub state-of : Lent ℤ Box → State
-state-of f = record { waiting = f .waiting; kept = f .kept; visits = f .visits; dropped = f .dropped }
 
 -- ---- the cursor: where a call begins, stops, and goes on
 abbrev pub begun : State → (budget room : ℕ) → Cursor
@@ -119,12 +112,6 @@ pub record Ready (h : Head) (st : List ℤ) (c : Cursor) : Type 0 where
   pub room-fits : c .room < 2 ^ 64
   pub dropped-high : c .state .dropped ≤ c .state .visits
   pub visits-fit : c .state .visits + c .left < 2 ^ 63
-
--- A slot that may be cut in direction r, as `cut` asks it.
-pub record MayCut (h : Head) (r : Direction) (l : List ℤ) : Type 0 where
-  pub fits : SlotFits h l
-  pub below : (box-in l ! direction r) .cuts < depths h ! direction r
-  pub can : can-cut h (direction r) l ≡ true
 
 -- A visit that may be made: something waits, the budget is not used up, a box that is kept has room in the list, one that is cut has a slot above.
 pub record MayVisit (h : Head) (st : List ℤ) (c : Cursor) (o : Outcome) : Type 0 where

@@ -3,9 +3,9 @@ use Prim.Native.Nat.{_<_}
 use mathlib.Core.Path.{refl, _∙_}
 use native.Mathlib.Omega.{arith}
 use borrow.Author.Needs.{needs}
-use Rattle.waiting.proofs.Becoming.{moves-dropped, moves-kept, moves-cut}
-use Rattle.waiting.proofs.step.make.Statement.{statement}
-use Rattle.waiting.proofs.step.make.Tie as tie
+use Rattle.steps.proofs.Becoming.{moves-dropped, moves-kept, moves-cut}
+use Rattle.steps.proofs.step.make.Statement.{statement}
+use Rattle.steps.proofs.step.make.Tie as tie
 
 add-s-3 : tie.Need-add-s-3
 add-s-3 c =

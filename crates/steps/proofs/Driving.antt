@@ -18,14 +18,15 @@ use Rattle.search.specs.Search.{Entry, entry}
 use Rattle.search.specs.Lent.{Lent, lent, lent-top, lent-become}
 use Rattle.search.proofs.Machine.{drive-nothing, drive-spent, drive-full, drive-go}
 use Rattle.search.proofs.Lent.{lent-turn}
 use Rattle.waiting.specs.Cells.{as-look, cells}
-use Rattle.waiting.specs.Steps.{Next, top, memory-of, halted, due, visited, moved, by-due, next, visit-of, seen}
-use Rattle.waiting.specs.Runs.{Way, way, stored, turned, went, forget, remember, word-of, Ends, One-turn, Turn-turns, Run-drives}
+use Rattle.waiting.specs.States.{memory-of}
+use Rattle.steps.specs.Steps.{Next, top, halted, due, visited, moved, by-due, next, visit-of, seen}
+use Rattle.steps.specs.Runs.{Way, way, stored, turned, went, forget, remember, word-of, Ends, One-turn, Turn-turns, Run-drives}
 use Rattle.waiting.specs.declared.state.State.{State}
-use Rattle.waiting.specs.declared.cursor.Kept.{Kept}
-use Rattle.waiting.specs.declared.cursor.Cursor.{Cursor}
-use Rattle.waiting.specs.declared.step.Due.{Due}
-use Rattle.waiting.proofs.Turning.{Visits, Says-due, due-says, turn-none, turn-waits, turn-full, turn-go}
+use Rattle.steps.specs.declared.cursor.Kept.{Kept}
+use Rattle.steps.specs.declared.cursor.Cursor.{Cursor}
+use Rattle.steps.specs.declared.step.Due.{Due}
+use Rattle.steps.proofs.Turning.{Visits, Says-due, due-says, turn-none, turn-waits, turn-full, turn-go}
 
 -- ---- lists
 map-set : {A B : Type 0} (f : A → B) (l : List A) (i : ℕ) (a : A) → map f (set l i a) ≡ set (map f l) i (f a)
@@ -86,7 +87,7 @@ module _ (h : Head) (list : List (Entry Box)) (st : List ℤ) (c : Cursor) (room
   abbrev pub machine : Lent ℤ Box
   machine = memory-of st list (c .state)
 
-  pub turn-is : lent (cells h) .turn (c .room) machine ≡ Rattle.waiting.proofs.Turning.turn-now h st c
+  pub turn-is : lent (cells h) .turn (c .room) machine ≡ Rattle.steps.proofs.Turning.turn-now h st c
   turn-is = lent-turn (cells h) (c .room) machine (omega arith)
 
   -- past the end nothing is stored
@@ -147,7 +148,7 @@ module _ (h : Head) (list : List (Entry Box)) (st : List ℤ) (c : Cursor) (room
 pub turn-turns : Turn-turns
 turn-turns h list st c b r k = from (due h st c) refl (due-says h st c)
   where
-    at : (t : Turn) → Rattle.waiting.proofs.Turning.turn-now h st c ≡ t → One-turn h list st c t → One-turn h list st c (lent (cells h) .turn (c .room) (memory-of st list (c .state)))
+    at : (t : Turn) → Rattle.steps.proofs.Turning.turn-now h st c ≡ t → One-turn h list st c t → One-turn h list st c (lent (cells h) .turn (c .room) (memory-of st list (c .state)))
     at t e q = subst (One-turn h list st c) (sym (turn-is h list st c r k ∙ e)) q
 
     from : (d : Due) → due h st c ≡ d → Says-due h st c d → One-turn h list st c (lent (cells h) .turn (c .room) (memory-of st list (c .state)))

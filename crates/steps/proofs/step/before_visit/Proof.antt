@@ -4,10 +4,10 @@ use mathlib.Core.Path.{refl}
 use native.Mathlib.Omega.{arith}
 use borrow.Author.Tests.{eq-eqb, ne-eqb}
 use borrow.Author.Needs.{needs}
-use Rattle.waiting.specs.Steps.{due}
-use Rattle.waiting.proofs.Turning.{top-inside, top-fits}
-use Rattle.waiting.proofs.step.before_visit.Statement.{statement}
-use Rattle.waiting.proofs.step.before_visit.Tie as tie
+use Rattle.steps.specs.Steps.{due}
+use Rattle.steps.proofs.Turning.{top-inside, top-fits}
+use Rattle.steps.proofs.step.before_visit.Statement.{statement}
+use Rattle.steps.proofs.step.before_visit.Tie as tie
 
 returns : tie.Need-returns
 unfolding due

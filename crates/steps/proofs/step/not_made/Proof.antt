@@ -1,8 +1,8 @@
 -- `not_made` meets its contract. Assumes nothing.
 use mathlib.Core.Path.{refl}
 use borrow.Author.Needs.{needs}
-use Rattle.waiting.proofs.step.not_made.Statement.{statement}
-use Rattle.waiting.proofs.step.not_made.Tie as tie
+use Rattle.steps.proofs.step.not_made.Statement.{statement}
+use Rattle.steps.proofs.step.not_made.Tie as tie
 
 returns : tie.Need-returns
 returns c = (c .before .halt .ensures, rw (c .unit .ensures) refl)

@@ -1,0 +1,4 @@
+pub mod Turning
+pub mod Driving
+pub mod Keeping
+pub mod Becoming
