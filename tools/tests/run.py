@@ -1,9 +1,9 @@
 #!/usr/bin/env python3
 """Tests the readable-text tools.
 
-    python3 tools/tests/run.py [SOLVE]
+    python3 tools/tests/run.py [WORD ..]
 
-With the desk program given as SOLVE, its answers for the examples and for the
+With the words that start the desk program, as `tools/start solve`, its answers for the examples and for the
 refused files are compared too. The last line counts the checks; the exit code
 is 0 if none failed.
 """
@@ -27,7 +27,7 @@ from checks import Checks, example
 def test_program(checks, program):
     """The desk program says what the examples and the refused files say."""
     def answer(data):
-        return subprocess.run([program], input=data, stdout=subprocess.PIPE,
+        return subprocess.run(program, input=data, stdout=subprocess.PIPE,
                               check=False).stdout.decode("ascii", "replace")
 
     for name, expected in test_draw.ANSWERS.items():
@@ -49,14 +49,11 @@ def run(checks, name, tests):
 
 
 def main(arguments):
-    if len(arguments) > 1:
-        sys.stderr.write("usage: python3 tools/tests/run.py [SOLVE]\n")
-        return 2
     checks = Checks()
     parts = [run(checks, "text", test_text.TESTS), run(checks, "file", test_file.TESTS),
              run(checks, "sweep", test_sweep.TESTS), run(checks, "draw", test_draw.TESTS)]
     if arguments:
-        program = os.path.abspath(arguments[0])
+        program = [os.path.abspath(arguments[0])] + arguments[1:]
 
         def test_given(counted):
             test_program(counted, program)

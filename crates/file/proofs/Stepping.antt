@@ -15,9 +15,9 @@ use Rattle.heads.specs.declared.refusal.Refused as refusal
 use Rattle.heads.specs.declared.head.Checked.the-variants.{Good}
 use Rattle.heads.specs.Chain.{refused, test}
 use Rattle.file.specs.Records.{length-of, kind-of, step, body, fits, due}
-use Rattle.file.specs.declared.records.Shape.{Shape}
-use Rattle.file.specs.declared.records.Step.{Step}
-use Rattle.file.specs.declared.records.Step.the-variants.{Record, Refused}
+use Rattle.file.specs.declared.parser.Shape.{Shape}
+use Rattle.file.specs.declared.parser.Step.{Step}
+use Rattle.file.specs.declared.parser.Step.the-variants.{Record, Refused}
 use Rattle.file.proofs.Tests.{both, passed, pass, parts, chain}
 
 -- ---- the header's numbers

@@ -15,7 +15,7 @@ use Rattle.heads.specs.Chain.{test, _then_}
 use Rattle.file.specs.Layout.{Layout, layout}
 use Rattle.file.specs.Records.{length-of, due}
 use Rattle.file.specs.Terms.{terms, coefficients}
-use Rattle.file.specs.declared.records.Shape.{Shape}
+use Rattle.file.specs.declared.parser.Shape.{Shape}
 use Rattle.file.specs.declared.reading.Answer.{Answer}
 
 -- ---- the bodies' lengths: 8 bytes; a number and up to S terms; none

@@ -9,9 +9,9 @@ use Rattle.words.specs.Bytes.{word16}
 use Rattle.heads.specs.declared.refusal.Refusal.{Refusal}
 use Rattle.heads.specs.declared.head.Checked.{Checked}
 use Rattle.heads.specs.Chain.{test, _then_}
-use Rattle.file.specs.declared.records.Shape.{Shape}
-use Rattle.file.specs.declared.records.Step.{Step}
-use Rattle.file.specs.declared.records.Step.the-variants.{Record, Refused}
+use Rattle.file.specs.declared.parser.Shape.{Shape}
+use Rattle.file.specs.declared.parser.Step.{Step}
+use Rattle.file.specs.declared.parser.Step.the-variants.{Record, Refused}
 
 abbrev pub length-of : List ℕ → ℕ
 length-of r = word16 r 0

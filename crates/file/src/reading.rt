@@ -1,6 +1,6 @@
 // Reading a system file: all of it is checked in 01's order before the first place is filled.
-use crate::records::Shape;
-use crate::records::due_at;
+use crate::parser::Shape;
+use crate::parser::due_at;
 use crate::terms::fill_places;
 use crate::terms::terms_at;
 use heads::head::Checked;

@@ -7,8 +7,8 @@ use crate::show::mixed_values;
 use crate::show::number;
 use crate::show::same_bytes;
 use crate::show::word;
+use file::parser::Step;
 use file::reading::Answer;
-use file::records::Step;
 use heads::refusal::Refused;
 use writing::Written;
 
@@ -135,11 +135,11 @@ pub fn changes(file: &[u8]) {
 }
 
 fn mixed_step(sum: usize, file: &[u8], at: usize) -> usize {
-    let step = file::records::record_at(file, at);
+    let step = file::parser::record_at(file, at);
     match step {
         Step::Record { kind, start, len } => mixed_bytes(
             mixed(mixed(mixed(mixed(sum, 0), kind), start), len),
-            file::records::body_at(file, at),
+            file::parser::body_at(file, at),
         ),
         Step::Refused(x) => {
             let m = refused(x);
@@ -150,14 +150,14 @@ fn mixed_step(sum: usize, file: &[u8], at: usize) -> usize {
 
 // Where the next record stands; the end where there is none.
 fn next(file: &[u8], at: usize) -> usize {
-    let step = file::records::record_at(file, at);
+    let step = file::parser::record_at(file, at);
     match step {
         Step::Record { kind, start, len } => {
             word(b"step");
             number(at);
             number(kind);
             number(len);
-            number(mixed_bytes(0, file::records::body_at(file, at)));
+            number(mixed_bytes(0, file::parser::body_at(file, at)));
             end();
             std::num::wrapping_add_usize(start, len)
         }

@@ -1,7 +1,7 @@
 // A reader that stands on the lent file and hands out record after record, its body as a part of the file. Each step takes the reader apart and calls the covered parser of a slice and a number.
-use file::records::Step;
-use file::records::body_at;
-use file::records::record_at;
+use file::parser::Step;
+use file::parser::body_at;
+use file::parser::record_at;
 ghost use mathlib.Core.Path.{_≡_};
 ghost use lib.ListN.{drop};
 ghost use Rattle.file.specs.Records.{step, body};

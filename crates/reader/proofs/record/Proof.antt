@@ -16,11 +16,11 @@ use denote.Triple.Table.{cited}
 use denote.Enum.Laws as EL
 use denote.Triple.Walked.{says}
 use Rattle.file.specs.Records.{step}
-use Rattle.file.proofs.records.record_at as callee
-use Rattle.file.proofs.records.record_at.Symbol as callee-def
-use Rattle.file.proofs.records.record_at.Met as callee-thm
-use Rattle.file.proofs.records.Step as S
-use Rattle.file.proofs.records.Step.Laws as S′
+use Rattle.file.proofs.parser.record_at as callee
+use Rattle.file.proofs.parser.record_at.Symbol as callee-def
+use Rattle.file.proofs.parser.record_at.Met as callee-thm
+use Rattle.file.proofs.parser.Step as S
+use Rattle.file.proofs.parser.Step.Laws as S′
 use Rattle.walks.proofs.Closing.{closes}
 use Rattle.walks.proofs.Data.{number, stays, all-go, spelled, told}
 use Rattle.walks.proofs.Lent.{hands, calls-owning}
@@ -39,7 +39,7 @@ record-spec 𝓤 H 𝓜 𝓖 𝓡 =
     let contract = tripleOf 𝓤 H (𝓖 .A) callee.signature (callee.spec 𝓤 H (𝓖 .A) (𝓜 .mem) (𝓡 .run)) in
     let W : Given 𝓤 H (𝓖 .A) = givenOf 𝓤 H 𝓜 𝓖 in
     closes 𝓤 H 𝓜 𝓖 𝓡 F.ended (stays ps) (F.clauses 𝓤 H (𝓖 .A) (𝓜 .mem) (𝓡 .run)) code.env name code.function (code.unfolded 𝓤 H 𝓜 𝓡) (all-go ps 𝓤 H (𝓖 .A)) (spelled ps) (told ps)
-    (λ C. Triple 𝓤 (C callee-def.name) contract) (cited 𝓤 H contract 𝓜 𝓡 code.env callee-def.name callee-def.routine code.calls-file·records·record-at (callee-thm.met 𝓤 H 𝓜 𝓖 𝓡))
+    (λ C. Triple 𝓤 (C callee-def.name) contract) (cited 𝓤 H contract 𝓜 𝓡 code.env callee-def.name callee-def.routine code.calls-file·parser·record-at (callee-thm.met 𝓤 H 𝓜 𝓖 𝓡))
     (λ 𝓣 known κs qs bounds a g are Q finish.
     let d = a .0 in
     let file = File (κs .0) (d .file) in

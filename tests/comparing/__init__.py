@@ -1,0 +1,1 @@
+"""The product compared with the independent program, input by input."""
