@@ -83,13 +83,16 @@ static void cut(int64_t *up, int r)
     lo[2 * r]++, up[2 * r]++, lo[2 * r + 1] *= 2, up[2 * r + 1] = 2 * up[2 * r + 1] + 1;
     for (int b = 6; b < width; b += block)
         for (int q = b; q < b + s; q++) {
-            for (int j = 0; j <= d; j++) line[j] = up[q + j * s];
-            up[q + d * s] = line[d] * ((int64_t)1 << d);
+            int64_t *u = up + q, *l = lo + q;
+            for (int j = 0; j <= d; j++, u += s) line[j] = *u;
+            u -= s;
+            *u = line[d] * ((int64_t)1 << d);
             for (int k = 1; k <= d; k++) {
                 for (int j = d; j >= k; j--) line[j] += line[j - 1];
-                up[q + (d - k) * s] = line[d] * ((int64_t)1 << (d - k));
+                u -= s;
+                *u = line[d] * ((int64_t)1 << (d - k));
             }
-            for (int j = 0; j <= d; j++) lo[q + j * s] = line[j] * ((int64_t)1 << (d - j));
+            for (int j = 0; j <= d; j++, l += s) *l = line[j] * ((int64_t)1 << (d - j));
         }
 }
 

@@ -76,6 +76,18 @@ pub narrowed : {H : Type 0} {base : H → ℕ} {from : H} {inner n : ℕ} {work 
     → Worked work base from (Under 1) 1 n old new → Worked work base from (Under inner) inner n old new
 narrowed {base} {from} {n} {work} {old} {new} e c = subst⁻¹ (λ (x : ℕ). Worked work base from (Under x) x n old new) e c
 
+-- the same of blocks
+pub blocks-at : {up lo outer inner w n : ℕ} {l : List ℤ} (k : ℕ) → inner ≡ w → n ≡ k
+    → Ready-blocks (half-at up lo) upper outer inner n l → Ready-blocks (half-at up lo) upper outer w k l
+blocks-at {up} {lo} {outer} {inner} {n} {l} k e d y =
+    subst (λ (x : ℕ). Ready-blocks (half-at up lo) upper outer x k l) e (subst (λ (x : ℕ). Ready-blocks (half-at up lo) upper outer inner x l) d y)
+
+pub blocks-cut-at : {up lo outer inner w n : ℕ} {old new : List ℤ} (k : ℕ) → inner ≡ w → n ≡ k
+    → Lines-cut (In-blocks ((k + 1) * w) w outer) up lo w k old new → Lines-cut (In-blocks ((n + 1) * inner) inner outer) up lo inner n old new
+blocks-cut-at {up} {lo} {outer} {inner} {n} {old} {new} k e d c =
+    subst⁻¹ (λ (x : ℕ). Lines-cut (In-blocks ((x + 1) * inner) inner outer) up lo inner x old new) d
+    (subst⁻¹ (λ (x : ℕ). Lines-cut (In-blocks ((k + 1) * x) x outer) up lo x k old new) e c)
+
 -- a count that is another
 pub at-count : {H : Type 0} {base : H → ℕ} {from : H} {inner n : ℕ} {work : H → Line → Line} {old new : List ℤ} (G : ℕ → ℕ → Type 0) {q r : ℕ} → q ≡ r
     → Worked work base from (G q) inner n old new → Worked work base from (G r) inner n old new

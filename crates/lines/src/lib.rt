@@ -111,22 +111,6 @@ fn twos(s: &mut [i64], up: usize, lo: usize, inner: usize, n: usize)
     }
 }
 
-// One line whose entries are neighbours.
-fn dense(s: &mut [i64], up: usize, lo: usize, n: usize)
-    requires { ⌜ Ready (half-at up lo) upper 1 1 n (now s) ⌝ }
-    ensures { λ r. ⌜ Lines-cut (Under 1) up lo 1 n (now (s .entry)) (now (s .exit)) ⌝ }
-{
-    match n {
-        0 => lines(s, up, lo, 1, 0, 1),
-        1 => lines(s, up, lo, 1, 1, 1),
-        2 => lines(s, up, lo, 1, 2, 1),
-        3 => lines(s, up, lo, 1, 3, 1),
-        4 => lines(s, up, lo, 1, 4, 1),
-        5 => lines(s, up, lo, 1, 5, 1),
-        _ => lines(s, up, lo, 1, 6, 1),
-    }
-}
-
 // The lines of a block, two at a time.
 fn wide(s: &mut [i64], up: usize, lo: usize, inner: usize, n: usize)
     requires { ⌜ Ready (half-at up lo) upper inner inner n (now s) ⌝ }
@@ -142,8 +126,8 @@ fn wide(s: &mut [i64], up: usize, lo: usize, inner: usize, n: usize)
     }
 }
 
-// Every line of outer blocks that stand side by side: the lines of one direction of one or more polynomials.
-pub fn blocks(s: &mut [i64], up: usize, lo: usize, outer: usize, inner: usize, n: usize)
+// Every line of outer blocks that stand side by side, block after block.
+fn each_block(s: &mut [i64], up: usize, lo: usize, outer: usize, inner: usize, n: usize)
     requires { ⌜ Ready-blocks (half-at up lo) upper outer inner n (now s) ⌝ }
     ensures { λ r. ⌜ Lines-cut (In-blocks ((n + 1) * inner) inner outer) up lo inner n (now (s .entry)) (now (s .exit)) ⌝ }
 {
@@ -152,11 +136,40 @@ pub fn blocks(s: &mut [i64], up: usize, lo: usize, outer: usize, inner: usize, n
     while o < outer {
         let d = o * size;
         if inner == 1 {
-            dense(s, up + d, lo + d, n);
+            lines(s, up + d, lo + d, 1, n, 1);
         } else {
             wide(s, up + d, lo + d, inner, n);
         }
         o += 1;
+    }
+}
+
+// The lines of one direction of one or more polynomials. The degree is a literal at each call, and so is the distance where the entries of a line are
+// neighbours: the compiler makes a loop of its own for each.
+pub fn blocks(s: &mut [i64], up: usize, lo: usize, outer: usize, inner: usize, n: usize)
+    requires { ⌜ Ready-blocks (half-at up lo) upper outer inner n (now s) ⌝ }
+    ensures { λ r. ⌜ Lines-cut (In-blocks ((n + 1) * inner) inner outer) up lo inner n (now (s .entry)) (now (s .exit)) ⌝ }
+{
+    if inner == 1 {
+        match n {
+            0 => each_block(s, up, lo, outer, 1, 0),
+            1 => each_block(s, up, lo, outer, 1, 1),
+            2 => each_block(s, up, lo, outer, 1, 2),
+            3 => each_block(s, up, lo, outer, 1, 3),
+            4 => each_block(s, up, lo, outer, 1, 4),
+            5 => each_block(s, up, lo, outer, 1, 5),
+            _ => each_block(s, up, lo, outer, 1, 6),
+        }
+    } else {
+        match n {
+            0 => each_block(s, up, lo, outer, inner, 0),
+            1 => each_block(s, up, lo, outer, inner, 1),
+            2 => each_block(s, up, lo, outer, inner, 2),
+            3 => each_block(s, up, lo, outer, inner, 3),
+            4 => each_block(s, up, lo, outer, inner, 4),
+            5 => each_block(s, up, lo, outer, inner, 5),
+            _ => each_block(s, up, lo, outer, inner, 6),
+        }
     }
 }
 

@@ -21,11 +21,12 @@ use Rattle.bernstein.proofs.Boxes.{weighted}
 use Rattle.heads.specs.declared.head.Head.{Head}
 use Rattle.heads.specs.Heads.{degrees, places, width}
 use Rattle.patch.specs.Slots.{at, polynomial, in-turn}
+use Rattle.patch.specs.Inside.{Weights}
 use Rattle.patch.proofs.Builds.{build-at, in-turn-length}
 use Rattle.patch.proofs.Working.{place-in}
 
 -- ---- the weights: entry i of row n
-abbrev pub table : List ℕ
+abbrev table : List ℕ
 table = 1 ∷ 1 ∷ 1 ∷ 2 ∷ 1 ∷ 2 ∷ 3 ∷ 1 ∷ 1 ∷ 3 ∷ 12 ∷ 3 ∷ 2 ∷ 3 ∷ 12 ∷ 10 ∷ 2 ∷ 1 ∷ 1 ∷ 2 ∷ 10 ∷ 60 ∷ 10 ∷ 4 ∷ 3 ∷ 4 ∷ 10 ∷ 60 ∷ []
 
 abbrev entry : ℕ → ℕ → ℕ
@@ -35,10 +36,13 @@ tested : T (all (λ n. all (λ i. eqb (entry n i) (weight n i)) (suc n)) 7)
 unfolding weight scale choose
 tested = tt
 
-pub table-is : (n i : ℕ) → n ≤ 6 → i ≤ n → getD table (n * (n + 1) / 2 + i) 0 ≡ weight n i
+table-is : (n i : ℕ) → n ≤ 6 → i ≤ n → getD table (n * (n + 1) / 2 + i) 0 ≡ weight n i
 table-is n i h k =
     eqb→eq (entry n i) (weight n i)
     (all-at (λ i. eqb (entry n i) (weight n i)) (suc n) i (all-at (λ n. all (λ i. eqb (entry n i) (weight n i)) (suc n)) 7 n tested (omega arith)) (omega arith))
+
+pub table-weighs : Weights table
+table-weighs = record { long = refl; weighs = table-is }
 
 pub row-high : (n : ℕ) → n ≤ 6 → n * (n + 1) ≤ 42
 row-high n h = let k : n + 1 ≤ 7 = omega arith in NatL.mul-le-mul h k

@@ -22,8 +22,9 @@ ghost use Rattle.heads.specs.Heads.{degrees, places, width, Limits};
 ghost use Rattle.boxes.specs.Boxes.{direction};
 ghost use Rattle.patch.specs.Slots.{at, polynomial, numbers, in-turn, unit-slot};
 ghost use Rattle.patch.specs.Rules.{every, within};
+ghost use Rattle.patch.specs.Inside.{Weights};
 
-// Row after row, scale / C(n, i) for i from 0 to n.
+// Row after row, scale / C(n, i) for i from 0 to n. A start makes the table once, and lends it.
 const WEIGHTS: [usize; 28] = [
     1,
     1,
@@ -55,24 +56,24 @@ const WEIGHTS: [usize; 28] = [
     60,
 ];
 
-fn weight_of(n: usize, i: usize) -> usize
-    requires { ⌜ (n ≤ 6) × (i ≤ n) ⌝ }
+fn weight_of(weights: &[usize], n: usize, i: usize) -> usize
+    requires { ⌜ Weights (now weights) × (n ≤ 6) × (i ≤ n) ⌝ }
     ensures { λ r. ⌜ (r ≡ weight n i) × (r ≤ 60) ⌝ }
 {
-    WEIGHTS[n * (n + 1) / 2 + i]
+    weights[n * (n + 1) / 2 + i]
 }
 
 // The weight of the number at place p of a polynomial.
-fn weight_at(h: Head, p: usize) -> usize
-    requires { ⌜ Limits h × (p < size (degrees h)) ⌝ }
+fn weight_at(weights: &[usize], h: Head, p: usize) -> usize
+    requires { ⌜ Weights (now weights) × Limits h × (p < size (degrees h)) ⌝ }
     ensures { λ r. ⌜ (r ≡ weight (h .n1) (index (degrees h) p .x₁) * weight (h .n2) (index (degrees h) p .x₂) * weight (h .n3) (index (degrees h) p .x₃)) × (r ≤ 216000) ⌝ }
 {
     let n2 = h.n2 as usize;
     let n3 = h.n3 as usize;
     let row = p / (n3 + 1);
-    let a = weight_of(h.n1 as usize, row / (n2 + 1));
-    let b = weight_of(n2, row % (n2 + 1));
-    let c = weight_of(n3, p % (n3 + 1));
+    let a = weight_of(weights, h.n1 as usize, row / (n2 + 1));
+    let b = weight_of(weights, n2, row % (n2 + 1));
+    let c = weight_of(weights, n3, p % (n3 + 1));
     a * b * c
 }
 
@@ -84,15 +85,15 @@ fn times(w: usize, x: i64) -> i64
 }
 
 // The coefficients times their weights, after the box.
-fn weigh(slot: &mut [i64], coefficients: &[i64], h: Head)
-    requires { ⌜ Limits h × (length (now slot) ≡ width h) × (places h ≤ length (now coefficients)) × (every (within 1000000000) (take (places h) (now coefficients)) ≡ true) ⌝ }
+fn weigh(slot: &mut [i64], coefficients: &[i64], weights: &[usize], h: Head)
+    requires { ⌜ Weights (now weights) × Limits h × (length (now slot) ≡ width h) × (places h ≤ length (now coefficients)) × (every (within 1000000000) (take (places h) (now coefficients)) ≡ true) ⌝ }
     ensures { λ r. ⌜ now (slot .exit) ≡ take 6 (now (slot .entry)) ++ in-turn h (λ t. weighted (degrees h) (polynomial h (now (coefficients .entry)) t)) ⌝ }
 {
     let size = h.size();
     let places = h.places();
     let mut x = 0;
     while x < places {
-        slot[6 + x] = times(weight_at(h, x % size), coefficients[x]);
+        slot[6 + x] = times(weight_at(weights, h, x % size), coefficients[x]);
         x += 1;
     }
 }
@@ -111,7 +112,8 @@ pub fn start(slot: &mut [i64], coefficients: &[i64], h: Head)
     ensures { λ x. ⌜ now (slot .exit) ≡ unit-slot h (now (coefficients .entry)) ⌝ }
 {
     put_box(slot, Box::unit());
-    weigh(slot, coefficients, h);
+    let weights = WEIGHTS;
+    weigh(slot, coefficients, &weights, h);
     spread(slot, h, Direction::Third);
     spread(slot, h, Direction::Second);
     spread(slot, h, Direction::First);

@@ -1,5 +1,5 @@
--- A loop that tests the numbers of a part, whatever the test: at the start, after a number that passes, at one that fails, and at the end. And what the first
--- number and one such loop say of the sign. Assumes nothing.
+-- A loop that tests the numbers of a part two at a turn, whatever the test: at the start, after two that pass, at a failure, at the last number of an odd
+-- count, and at the end. And what the first number and one such loop say of the sign. Assumes nothing.
 use mathlib.Core.Path.{_≡_, refl, sym, subst}
 use mathlib.Core.Bool.{Bool, true, false}
 use mathlib.Core.Logic.{_↔_, ⊎-elim}
@@ -45,16 +45,33 @@ module _ {P : ℤ → Type 0} {l : List ℤ} where
   pub none : {start : ℕ} → Each P l start start
   none = record { each = λ i p q. absurd (omega arith) }
 
-  pub one-more : {start i : ℕ} → Each P l start i → P (getD l i (pos 0)) → Each P l start (i + 1)
-  one-more {start} {i} e here = record {
-    each = λ k p q. by-lt k i (λ h. e .each k p h) (λ h. let z : k ≡ i = omega arith in subst (λ (x : ℕ). P (getD l x (pos 0))) (sym z) here);
-  }
+  one : {i : ℕ} → P (getD l i (pos 0)) → Each P l i (i + 1)
+  one {i} here = record { each = λ k p q. let z : k ≡ i = omega arith in subst (λ (x : ℕ). P (getD l x (pos 0))) (sym z) here }
 
-  pub broken : {start stop : ℕ} (i : ℕ) → start ≤ i → i < stop → (P (getD l i (pos 0)) → ⊥) → (false ≡ true) ↔ Each P l start stop
-  broken i p q f = iff-no (λ e. f (e .each i p q))
+  pub joined : {start i stop : ℕ} → Each P l start i → Each P l i stop → Each P l start stop
+  joined {i} e f = record { each = λ k p q. by-lt k i (λ h. e .each k p h) (λ h. f .each k h q) }
+
+  inside : {start i j stop : ℕ} → start ≤ i → j ≤ stop → Each P l start stop → Each P l i j
+  inside a b e = record { each = λ k p q. e .each k (omega arith) (omega arith) }
+
+  -- the last number: what is said of it is said of all
+  pub last : {start i stop : ℕ} {b : Bool} → start ≤ i → i + 1 ≡ stop → Each P l start i → (b ≡ true) ↔ P (getD l i (pos 0))
+      → (b ≡ true) ↔ Each P l start stop
+  last {i} h n e f = (λ t. inside (omega arith) (omega arith) (joined e (one (f .0 t))), λ g. f .1 (g .each i h (omega arith)))
+
+  -- two neighbours, of which the first passes
+  pub pair : {i : ℕ} {b : Bool} → P (getD l i (pos 0)) → (b ≡ true) ↔ P (getD l (i + 1) (pos 0)) → (b ≡ true) ↔ Each P l i (i + 2)
+  pair here f = last (omega arith) (omega arith) (one here) f
+
+  pub broken : {start stop : ℕ} (i j : ℕ) → start ≤ i → j ≤ stop → (Each P l i j → ⊥) → (false ≡ true) ↔ Each P l start stop
+  broken i j p q f = iff-no (λ e. f (inside p q e))
+
+  -- a part whose first number fails
+  pub at-first : {start stop : ℕ} → start < stop → (P (getD l start (pos 0)) → ⊥) → (false ≡ true) ↔ Each P l start stop
+  at-first {start} h f = iff-no (λ e. f (e .each start (omega arith) h))
 
   pub passed : {start i stop : ℕ} → stop ≤ i → Each P l start i → (true ≡ true) ↔ Each P l start stop
-  passed h e = iff-yes (record { each = λ k p q. e .each k p (omega arith) })
+  passed h e = iff-yes (inside (omega arith) h e)
 
   -- the same, counted from the part's start
   pub each-part : (start size : ℕ) → Each P l start (start + size) ↔ ((x : ℕ) → x < size → P (getD l (start + x) (pos 0)))

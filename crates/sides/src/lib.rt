@@ -2,7 +2,7 @@
 ghost use mathlib.Core.Path.{_≡_};
 ghost use mathlib.Core.Bool.{true};
 ghost use mathlib.Core.Logic.{_↔_};
-ghost use Prim.Native.Nat.{_<_, _≤_};
+ghost use Prim.Native.Nat.{_+_, _<_, _≤_};
 ghost use lib.IntN.{pos, natAbs};
 ghost use lib.Signed.{_≤ℤ_};
 ghost use lib.ListN.{length};
@@ -25,18 +25,32 @@ fn has(x: i64, above: bool) -> bool
     x < 0
 }
 
-// The sign is a literal at each call, so that the compiler makes two loops.
+// Two neighbours.
+fn two_have(s: &[i64], i: usize, above: bool) -> bool
+    requires { ⌜ i + 2 ≤ length (now s) ⌝ }
+    ensures { λ r. ⌜ (r ≡ true) ↔ Each (Has (sign above)) (now (s .entry)) i (i + 2) ⌝ }
+{
+    if has(s[i], above) {
+        return has(s[i + 1], above);
+    }
+    false
+}
+
+// Two at a turn, and one more if the count is odd. The sign is a literal at each call, so that the compiler makes two loops.
 fn all_have(s: &[i64], start: usize, stop: usize, above: bool) -> bool
-    requires { ⌜ stop ≤ length (now s) ⌝ }
+    requires { ⌜ (start ≤ stop) × (stop ≤ length (now s)) ⌝ }
     ensures { λ r. ⌜ (r ≡ true) ↔ Each (Has (sign above)) (now (s .entry)) start stop ⌝ }
 {
     let mut i = start;
-    while i < stop {
-        if has(s[i], above) {
-            i += 1;
+    while i + 1 < stop {
+        if two_have(s, i, above) {
+            i += 2;
         } else {
             return false;
         }
+    }
+    if i < stop {
+        return has(s[i], above);
     }
     true
 }
@@ -69,18 +83,35 @@ fn within(x: i64, bound: i64) -> bool
     -bound <= x
 }
 
+// Two neighbours.
+fn two_within(s: &[i64], i: usize, bound: i64) -> bool
+    requires { ⌜ (i + 2 ≤ length (now s)) × (pos 0 ≤ℤ bound) ⌝ }
+    ensures { λ r. ⌜ (r ≡ true) ↔ Each (At-most (natAbs bound)) (now (s .entry)) i (i + 2) ⌝ }
+{
+    if within(s[i], bound) {
+        return within(s[i + 1], bound);
+    }
+    false
+}
+
 // Whether every number is at most the bound in size.
 pub fn all_within(s: &[i64], start: usize, stop: usize, bound: i64) -> bool
     requires { ⌜ (stop ≤ length (now s)) × (pos 0 ≤ℤ bound) ⌝ }
     ensures { λ r. ⌜ (r ≡ true) ↔ Each (At-most (natAbs bound)) (now (s .entry)) start stop ⌝ }
 {
+    if stop <= start {
+        return true;
+    }
     let mut i = start;
-    while i < stop {
-        if within(s[i], bound) {
-            i += 1;
+    while i + 1 < stop {
+        if two_within(s, i, bound) {
+            i += 2;
         } else {
             return false;
         }
+    }
+    if i < stop {
+        return within(s[i], bound);
     }
     true
 }

@@ -6,15 +6,16 @@ use Rattle.bernstein.specs.Three.{first, second, third}
 use Rattle.bernstein.specs.Numbers.{unit}
 use Rattle.patch.specs.Slots.{box-numbers}
 use Rattle.patch.proofs.Spreading.{staged, stage-ready, weighed, spread-on, start-is}
+use Rattle.patch.proofs.Weighing.{table-weighs}
 use Rattle.patch.proofs.starts.start.Statement.{statement}
 use Rattle.patch.proofs.starts.start.Tie as tie
 
 abbrev begin : tie.After-weigh → tie.Start
-begin c = c .before .before .before .before .before .before
+begin c = c .before .before .before .before .before .before .before
 
 before-third : (c : tie.After-weigh) → c .weigh .last .0 ≡ box-numbers unit ++ staged (begin c .args .h) (begin c .args .coefficients .now) third
 before-third c =
-    let p = c .before .before .before in
+    let p = c .before .before .before .before in
     weighed (begin c .args .h) (begin c .args .coefficients .now) (p .before .unit .ensures) (p .put-box .ensures) (c .weigh .ensures)
 
 before-second : (c : tie.After-spread) → c .spread .last .0 ≡ box-numbers unit ++ staged (begin (c .before .before .before) .args .h) (begin (c .before .before .before) .args .coefficients .now) second
@@ -49,7 +50,10 @@ returns c =
     start-is (s .args .h) (s .args .coefficients .now) (e .spread3 .last .0)
     (spread-on (s .args .h) (s .args .coefficients .now) first (d .spread2 .last .0) (e .spread3 .last .0) (before-first d) (e .spread3 .ensures))
 
+weigh-requires : tie.Need-weigh-requires
+weigh-requires c κs = let t = table-weighs in search (needs, t)
+
 pub start-spec : {M : Type 1} → statement M
 start-spec =
     tie.close
-    (tie.spec (λ c κs. search needs) (λ c κs. search needs) (λ c κs. search needs) spread-requires spread-requires-2 spread-requires-3 (λ c. search needs) returns)
+    (tie.spec (λ c κs. search needs) (λ c κs. search needs) (λ c. search needs) weigh-requires spread-requires spread-requires-2 spread-requires-3 (λ c. search needs) returns)

@@ -12,15 +12,15 @@ use Rattle.patch.proofs.starts.weight_at.Tie as tie
 
 weight-of-requires : tie.Need-weight-of-requires
 weight-of-requires c κs =
-    let s = c .before .before .before in (s .pre .0 .degrees-high .small first, index-upto (degrees (s .args .h)) (s .args .p) (s .pre .1) .upto first)
+    let s = c .before .before .before .before in (s .pre .0, s .pre .1 .degrees-high .small first, index-upto (degrees (s .args .h)) (s .args .p) (s .pre .2) .upto first)
 
 weight-of-requires-2 : tie.Need-weight-of-requires-2
 weight-of-requires-2 c κs =
-    let s = c .before .before .before .before in (s .pre .0 .degrees-high .small second, index-upto (degrees (s .args .h)) (s .args .p) (s .pre .1) .upto second)
+    let s = c .before .before .before .before .before in (s .pre .0, s .pre .1 .degrees-high .small second, index-upto (degrees (s .args .h)) (s .args .p) (s .pre .2) .upto second)
 
 weight-of-requires-3 : tie.Need-weight-of-requires-3
 weight-of-requires-3 c κs =
-    let s = c .before .before .before .before .before in (s .pre .0 .degrees-high .small third, index-upto (degrees (s .args .h)) (s .args .p) (s .pre .1) .upto third)
+    let s = c .before .before .before .before .before .before in (s .pre .0, s .pre .1 .degrees-high .small third, index-upto (degrees (s .args .h)) (s .args .p) (s .pre .2) .upto third)
 
 mul-result : tie.Need-mul-result
 mul-result c = let b = c .before in let a = b .before in omega (arith, NatL.mul-le-mul (a .weight-of .ensures .1) (b .weight-of2 .ensures .1))
