@@ -6,4 +6,5 @@ pub mod Demands
 pub mod Starred
 pub mod Caller
 pub mod Reached
+pub mod Program
 pub mod Stores

@@ -174,12 +174,15 @@ reached-exact h cs st s list store p =
     (subst (λ (f : Memory). (p : ℕ) → p < f .waiting → Fit h cs (slot (width h) p (f .store)) × SlotAllowed h p (slot (width h) p (f .store)))
     (no-budget (lent (cells h)) (length (t .memory .list)) (t .memory)) (waiting-exact h cs st (t .accepted) (t .memory) (t .begun) 0))
 
+pub take-map : {A B : Type 0} (f : A → B) (k : ℕ) (l : List A) → take k (map f l) ≡ map f (take k l)
+take-map f zero l = refl
+take-map f (suc k) [] = refl
+take-map f (suc k) (x ∷ l) = ap (λ (m : List _). f x ∷ m) (take-map f k l)
+
 -- in the box of an entry, and of its record
-kept-in-record : (x : Point) (k : ℕ) (es : List (Entry Box)) → Any (λ e. LiesIn x (e .place)) (take k es) → Any (λ r. LiesIn x (as-box (box-of r))) (take k (map forget es))
-kept-in-record x zero es a = a
-kept-in-record x (suc k) [] a = a
-kept-in-record x (suc k) (e ∷ es) (inl i) = inl i
-kept-in-record x (suc k) (e ∷ es) (inr a) = inr (kept-in-record x k es a)
+pub in-record : (x : Point) (es : List (Entry Box)) → Any (λ e. LiesIn x (e .place)) es → Any (λ k. LiesIn x (as-box (box-of k))) (map forget es)
+in-record x (e ∷ es) (inl i) = inl i
+in-record x (e ∷ es) (inr a) = inr (in-record x es a)
 
 pub reached-holds : Reached-holds
 reached-holds h cs st s list store p x i z =
@@ -191,4 +194,4 @@ reached-holds h cs st s list store p x i z =
     told : (f : Memory) → Held (slots (cells h)) LiesIn x (boxes-of h f)
         → Any (λ n. LiesIn x (box-in n)) (stack (width h) (f .waiting) (f .store)) ⊎ Any (λ r. LiesIn x (as-box (box-of r))) (take (f .kept) (map forget (f .list)))
     told f (inl a) = inl a
-    told f (inr a) = inr (kept-in-record x (f .kept) (f .list) a)
+    told f (inr a) = inr (rw (take-map forget (f .kept) (f .list)) (in-record x (take (f .kept) (f .list)) a))

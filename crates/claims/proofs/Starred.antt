@@ -1,4 +1,4 @@
--- The starred examples, computed from the definitions. Assumes nothing.
+-- The starred examples and F, computed from the definitions. Assumes nothing.
 use mathlib.Core.Path.{refl}
 use Rattle.whole.specs.Sums.{sum-to, choose}
 use Rattle.bernstein.specs.Three.{sum-upto}
@@ -12,8 +12,25 @@ use Rattle.waiting.specs.States.{span-ok, slot-ok, slots-ok, counts-ok, judged}
 use Rattle.waiting.specs.Starts.{start-check, fresh-store}
 use Rattle.steps.specs.Steps.{due, visited, next}
 use Rattle.steps.specs.Runs.{went}
+use Rattle.words.specs.Bytes.{signed32}
+use Rattle.file.specs.Records.{due as record-due}
+use Rattle.file.specs.Terms.{term, terms, coefficients}
+use Rattle.file.specs.Reading.{polynomial, ending, polynomials, numbers-of, checked, reads}
+use Rattle.text.specs.Text.{digits, decimal, ended, line}
+use Rattle.plain.specs.Lists.{taken}
+use Rattle.printing.specs.Lines.{kept-lines}
+use Rattle.desk.specs.Report.{run-found, system-found, file-found, found, report}
 use Rattle.claims.specs.Starred.{Starred-right}
+use Rattle.claims.specs.Program.{Prints-F}
 
 pub starred-right : Starred-right
-unfolding start-check fresh-store judged counts-ok slots-ok slot-ok span-ok went next due visited lent-become head-ok unit-slot in-turn build formula sum-upto sum-to choose weight scale place size places after half-line half-slot looked decided every chosen
+unfolding start-check fresh-store judged counts-ok slots-ok slot-ok span-ok went next due visited lent-become head-ok
+    unit-slot in-turn build formula sum-upto sum-to choose weight scale place size places after half-line half-slot looked decided every chosen
 starred-right = ((refl, refl), (refl, (refl, ((refl, refl), (refl, (refl, ((refl, refl), ((refl, refl), ((refl, refl), ((refl, refl), ((refl, refl), tt)))))))))))
+
+pub prints-F : Prints-F
+unfolding report found file-found system-found run-found reads checked polynomials polynomial ending numbers-of record-due terms term coefficients signed32
+    taken kept-lines line ended decimal digits
+    start-check fresh-store judged counts-ok slots-ok slot-ok span-ok went next due visited lent-become head-ok
+    unit-slot in-turn build formula sum-upto sum-to choose weight scale place size places after half-line half-slot looked decided every chosen
+prints-F = refl

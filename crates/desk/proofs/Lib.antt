@@ -1,2 +1,3 @@
-pub mod Reporting
+pub mod Finding
+pub mod Fitting
 pub mod Room

@@ -1,10 +1,13 @@
--- What the desk program prints of a file, from its bytes to the bytes printed (01, "The program"): the file is read, a run is started and made, and its answer
--- told, all by the definitions that the contracts of these calls cite. Definitions, and the statement that the places are enough.
+-- What the desk program finds in a file and prints of it, from the bytes read to the bytes printed (01, "The program"): the file is read, a run is started and
+-- made, and its answer told, all by the definitions that the contracts of these calls cite. Definitions, and the statement that the places are enough.
 use Prim.Native.Nat.{ℕ, _*_, _≤_}
+use mathlib.Core.Bool.{Bool, true}
 use mathlib.Core.List.{List}
+use lib.Dec.{leb}
 use lib.IntN.{ℤ, pos}
 use lib.ListN.{replicate}
 use Rattle.heads.specs.declared.head.Head.{Head}
+use Rattle.heads.specs.declared.refusal.Refused.{Refused}
 use Rattle.heads.specs.Heads.{places, Limits}
 use Rattle.file.specs.Reading.{reads}
 use Rattle.file.specs.declared.reading.Answer.{Answer}
@@ -14,33 +17,54 @@ use Rattle.waiting.specs.States.{needed}
 use Rattle.waiting.specs.declared.start.Started.{Started}
 use Rattle.waiting.specs.declared.start.Started.the-variants.{Begun, Refused as Not-begun}
 use Rattle.waiting.specs.declared.state.State.{State}
+use Rattle.steps.specs.declared.cursor.Kept.{Kept}
+use Rattle.records.specs.declared.runs.Answer as Ran
+use Rattle.records.specs.declared.runs.Answer.the-variants.{Stopped, Refused as Not-run}
 use Rattle.records.specs.Runs.{run-of}
 use Rattle.plain.specs.Lists.{listed}
-use Rattle.printing.specs.Lines.{refusal-line, told}
+use Rattle.printing.specs.Lines.{told}
 
--- ---- of a run from a state, with what stands in the store and in the list
-unfoldable pub run-report : (budget : ℕ) → Head → State → (store : List ℤ) (list : List ℕ) → List ℕ
-run-report b h s st list = told (run-of h s b (listed list) st .answer) (run-of h s b (listed list) st .end .list)
+-- the answer, and the records that the list then holds; list is what its numbers were before
+pub record Found : Type 0 where
+  pub answer : Ran.Answer
+  pub kept : List Kept
 
--- ---- of a start
-abbrev pub started-report : (budget : ℕ) → Head → Started → (store : List ℤ) (list : List ℕ) → List ℕ
-started-report b h (Begun s) st list = run-report b h s st list
-started-report b h (Not-begun x) st list = refusal-line x
+-- a refusal changes nothing
+abbrev pub refused : Refused → (list : List ℕ) → Found
+refused x list = record { answer = Not-run x; kept = listed list }
 
-unfoldable pub system-report : (budget : ℕ) → Head → (coefficients store : List ℤ) (list : List ℕ) → List ℕ
-system-report b h cs st list = started-report b h (start-answer (start-check h cs st)) (start-store h cs st (start-check h cs st)) list
+-- ---- from a state, with what stands in the store
+unfoldable pub run-found : (budget : ℕ) → Head → State → (store : List ℤ) (list : List ℕ) → Found
+run-found b h s st list = record { answer = run-of h s b (listed list) st .answer; kept = run-of h s b (listed list) st .end .list }
 
--- ---- of a file
-abbrev pub read-report : (budget : ℕ) → Answer → (coefficients store : List ℤ) (list : List ℕ) → List ℕ
-read-report b (System h) cs st list = system-report b h cs st list
-read-report b (Not-read x) cs st list = refusal-line x
+-- ---- from a start
+abbrev pub started-found : (budget : ℕ) → Head → Started → (store : List ℤ) (list : List ℕ) → Found
+started-found b h (Begun s) st list = run-found b h s st list
+started-found b h (Not-begun x) st list = refused x list
 
-unfoldable pub file-report : (budget : ℕ) → List ℕ → (coefficients store : List ℤ) (list : List ℕ) → List ℕ
-file-report b file cs st list = read-report b (reads file cs .0) (reads file cs .1) st list
+unfoldable pub system-found : (budget : ℕ) → Head → (coefficients store : List ℤ) (list : List ℕ) → Found
+system-found b h cs st list = started-found b h (start-answer (start-check h cs st)) (start-store h cs st (start-check h cs st)) list
 
--- ---- "budget 1,000,000, list room 1,024", a record being seven numbers. Coefficients: m × S is at most 3 × 64. Store: (D + 1) × (6 + m × S) is at most 31 × 198.
+-- ---- from a file
+abbrev pub read-found : (budget : ℕ) → Answer → (coefficients store : List ℤ) (list : List ℕ) → Found
+read-found b (System h) cs st list = system-found b h cs st list
+read-found b (Not-read x) cs st list = refused x list
+
+unfoldable pub file-found : (budget : ℕ) → List ℕ → (coefficients store : List ℤ) (list : List ℕ) → Found
+file-found b file cs st list = read-found b (reads file cs .0) (reads file cs .1) st list
+
+-- ---- "budget 1,000,000". Coefficients: m × S is at most 3 × 64. Store: (D + 1) × (6 + m × S) is at most 31 × 198. What they hold before is never read.
+unfoldable pub found : (file list : List ℕ) → Found
+found file list = file-found 1000000 file (replicate (3 * 64) (pos 0)) (replicate (31 * 198) (pos 1)) list
+
+-- ---- "list room 1,024", a record being seven numbers; and what is printed
 unfoldable pub report : List ℕ → List ℕ
-report file = file-report 1000000 file (replicate (3 * 64) (pos 0)) (replicate (31 * 198) (pos 0)) (replicate (7 * 1024) 0)
+report file = told (found file (replicate (7 * 1024) 1) .answer) (found file (replicate (7 * 1024) 1) .kept)
+
+-- At most 46 kept boxes are told in a short text.
+abbrev pub few-kept : Ran.Answer → Bool
+few-kept (Stopped s) = leb (s .state .kept) 46
+few-kept (Not-run x) = true
 
 -- Every head within limits finds room there: the program refuses no file for want of room.
 abbrev pub Room-enough : Type 0

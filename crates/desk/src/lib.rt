@@ -1,68 +1,72 @@
-// What the desk program prints of a system file (01, "The program").
-use file::reading::Answer;
+// What the desk program finds in a system file, and the text that tells it (01, "The program").
+use file::reading::Answer as Reading;
 use heads::head::Head;
 use printing::put_answer;
-use printing::put_refusal;
+use records::runs::Answer;
 use waiting::start::Started;
-use waiting::state::State;
 ghost use mathlib.Core.Path.{_≡_};
+ghost use mathlib.Core.Bool.{true};
 ghost use mathlib.Core.List.{_++_};
-ghost use Prim.Native.Nat.{_+_, _*_, _≤_};
 ghost use lib.ListN.{length, drop};
-ghost use Rattle.words.specs.Bytes.{over};
-ghost use Rattle.desk.specs.Report.{run-report, system-report, file-report, report};
+ghost use Rattle.plain.specs.Lists.{listed, relisted};
+ghost use Rattle.printing.specs.Lines.{told};
+ghost use Rattle.desk.specs.Report.{system-found, file-found, found, few-kept};
 
-fn answer_run(h: Head, s: State, store: &mut [i64], list: &mut [u16], text: &mut [u8]) -> usize
-    requires { ⌜ 93 + 6 * length (now list) ≤ length (now text) ⌝ }
-    ensures { λ r. ⌜ (r ≡ length (run-report 1000000 h s (now (store .entry)) (now (list .entry))))
-        × (now (text .exit) ≡ over (now (text .entry)) 0 (run-report 1000000 h s (now (store .entry)) (now (list .entry)))) ⌝ }
-{
-    let a = plain::runs::run(store, list, h, s, 1000000);
-    put_answer(text, a, list)
-}
-
-fn answer_system(
-    h: Head,
-    coefficients: &[i64],
-    store: &mut [i64],
-    list: &mut [u16],
-    text: &mut [u8],
-) -> usize
-    requires { ⌜ 93 + 6 * length (now list) ≤ length (now text) ⌝ }
-    ensures { λ r. ⌜ (r ≡ length (system-report 1000000 h (now (coefficients .entry)) (now (store .entry)) (now (list .entry))))
-        × (now (text .exit) ≡ over (now (text .entry)) 0 (system-report 1000000 h (now (coefficients .entry)) (now (store .entry)) (now (list .entry)))) ⌝ }
+fn search_system(h: Head, coefficients: &[i64], store: &mut [i64], list: &mut [u16]) -> Answer
+    ensures { λ r. ⌜ (r ≡ system-found 1000000 h (now (coefficients .entry)) (now (store .entry)) (now (list .entry)) .answer)
+        × (now (list .exit) ≡ relisted (now (list .entry)) (system-found 1000000 h (now (coefficients .entry)) (now (store .entry)) (now (list .entry)) .kept)) ⌝ }
 {
     let started = waiting::start::start(h, coefficients, store);
     match started {
-        Started::Begun(s) => answer_run(h, s, store, list, text),
-        Started::Refused(x) => put_refusal(text, x),
+        Started::Begun(s) => plain::runs::run(store, list, h, s, 1000000),
+        Started::Refused(x) => Answer::Refused(x),
     }
 }
 
-fn answer_file(
-    file: &[u8],
-    coefficients: &mut [i64],
-    store: &mut [i64],
-    list: &mut [u16],
-    text: &mut [u8],
-) -> usize
-    requires { ⌜ 93 + 6 * length (now list) ≤ length (now text) ⌝ }
-    ensures { λ r. ⌜ (r ≡ length (file-report 1000000 (now (file .entry)) (now (coefficients .entry)) (now (store .entry)) (now (list .entry))))
-        × (now (text .exit) ≡ over (now (text .entry)) 0 (file-report 1000000 (now (file .entry)) (now (coefficients .entry)) (now (store .entry)) (now (list .entry)))) ⌝ }
+fn search_file(file: &[u8], coefficients: &mut [i64], store: &mut [i64], list: &mut [u16]) -> Answer
+    ensures { λ r. ⌜ (r ≡ file-found 1000000 (now (file .entry)) (now (coefficients .entry)) (now (store .entry)) (now (list .entry)) .answer)
+        × (now (list .exit) ≡ relisted (now (list .entry)) (file-found 1000000 (now (file .entry)) (now (coefficients .entry)) (now (store .entry)) (now (list .entry)) .kept)) ⌝ }
 {
     let system = file::reading::read(file, coefficients);
     match system {
-        Answer::System(h) => answer_system(h, coefficients, store, list, text),
-        Answer::Refused(x) => put_refusal(text, x),
+        Reading::System(h) => search_system(h, coefficients, store, list),
+        Reading::Refused(x) => Answer::Refused(x),
     }
 }
 
-// Puts what is printed for a file at the front of the text, and answers how many bytes it is. The longest answer: a first line of 93 bytes and 1,024 lines of 42.
-pub fn answer(file: &[u8], text: &mut [u8; 43101]) -> usize
-    ensures { λ r. ⌜ (r ≡ length (report (now (file .entry)))) × (now (text .exit) ≡ report (now (file .entry)) ++ drop r (now (text .entry))) ⌝ }
+// Reads the file and makes the run. The store's numbers are never read before they are written; ones, as long zeros are cleared byte by byte.
+pub fn search(file: &[u8], list: &mut [u16; 7168]) -> Answer
+    ensures { λ r. ⌜ (r ≡ found (now (file .entry)) (now (list .entry)) .answer)
+        × (now (list .exit) ≡ relisted (now (list .entry)) (found (now (file .entry)) (now (list .entry)) .kept)) ⌝ }
 {
     let mut coefficients = [0i64; 192];
-    let mut store = [0i64; 6138];
-    let mut list = [0u16; 7168];
-    answer_file(file, &mut coefficients, &mut store, &mut list, text)
+    let mut store = [1i64; 6138];
+    search_file(file, &mut coefficients, &mut store, list)
+}
+
+pub fn few(a: Answer) -> bool
+    ensures { λ r. ⌜ r ≡ few-kept a ⌝ }
+{
+    match a {
+        Answer::Stopped(s) => {
+            let c = s.state;
+            c.kept <= 46
+        }
+        Answer::Refused(_) => true,
+    }
+}
+
+// Puts what is printed of an answer at the front of the text, and answers how many bytes it is. The longest: a first line of 93 bytes and 1,024 lines of 42.
+pub fn tell(a: Answer, list: &[u16; 7168], text: &mut [u8; 43101]) -> usize
+    ensures { λ r. ⌜ (r ≡ length (told a (listed (now (list .entry))))) × (now (text .exit) ≡ told a (listed (now (list .entry))) ++ drop r (now (text .entry))) ⌝ }
+{
+    put_answer(text, a, list)
+}
+
+// The same in a short text, so that a short list costs no long one.
+pub fn tell_few(a: Answer, list: &[u16; 7168], text: &mut [u8; 2048]) -> usize
+    requires { ⌜ few-kept a ≡ true ⌝ }
+    ensures { λ r. ⌜ (r ≡ length (told a (listed (now (list .entry))))) × (now (text .exit) ≡ told a (listed (now (list .entry))) ++ drop r (now (text .entry))) ⌝ }
+{
+    put_answer(text, a, list)
 }

@@ -1,6 +1,6 @@
 -- What is told of a stop, as it is put: the first line, and the lines of the records that there are. Assumes nothing.
 use Prim.Native.Nat.{ℕ, _+_, _*_, _/_, _≤_, _<_, min}
-use mathlib.Core.Path.{_≡_, refl}
+use mathlib.Core.Path.{_≡_, refl, sym}
 use mathlib.Core.List.{List, _++_}
 use native.Mathlib.Omega.{arith}
 use lib.ListN.{length, getD, length-append}
@@ -8,7 +8,7 @@ use Rattle.records.specs.declared.runs.Stop.{Stop}
 use Rattle.records.specs.declared.runs.Answer.{Answer}
 use Rattle.records.specs.declared.runs.Answer.the-variants.{Stopped}
 use Rattle.plain.specs.Lists.{taken, listed}
-use Rattle.printing.specs.Lines.{stop-line, kept-lines, told}
+use Rattle.printing.specs.Lines.{stop-line, kept-lines, told, lines-told}
 use Rattle.printing.proofs.Lists.{taken-least}
 use Rattle.printing.proofs.Sizes.{lines-short}
 
@@ -22,6 +22,9 @@ module _ (s : Stop) (xs : List ℕ) (n : ℕ) (e : n ≡ min (s .state .kept) (l
   pub records-there : 7 * n ≤ length xs
   records-there = let h : n ≤ length xs / 7 = omega arith in omega arith
 
-  pub stop-fits : (t0 : ℕ) → length (first-line s) ≤ 93 → ((i : ℕ) → getD xs i 0 < 65536) → 93 + 6 * length xs ≤ t0 → 0 + length
-      (first-line s ++ kept-lines (taken n xs)) ≤ t0
-  stop-fits t0 short small enough = omega (arith, length-append (first-line s) (kept-lines (taken n xs)), lines-short n xs small, records-there)
+  pub stop-fits : (t0 : ℕ) → length (first-line s) ≤ 93 → ((i : ℕ) → getD xs i 0 < 65536) → 93 + 42 * n ≤ t0
+      → 0 + length (first-line s ++ kept-lines (taken n xs)) ≤ t0
+  stop-fits t0 short small enough = omega (arith, length-append (first-line s) (kept-lines (taken n xs)), lines-short n xs small)
+
+  pub stop-room : (a : Answer) (t0 : ℕ) → a ≡ Stopped s → 93 + 42 * lines-told a (length xs) ≤ t0 → 93 + 42 * n ≤ t0
+  stop-room a t0 h enough = rw (h, sym e) at enough

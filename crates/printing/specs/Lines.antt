@@ -1,6 +1,6 @@
 -- The lines that the desk program prints (01, "The program"; F): a refusal; or the answer word with visits, dropped, kept, waiting, then a line for each kept box.
 -- Definitions only.
-use Prim.Native.Nat.{ℕ}
+use Prim.Native.Nat.{ℕ, _/_, min}
 use mathlib.Core.List.{List, [], _∷_, _++_, map}
 use lib.ListN.{take}
 use Rattle.heads.specs.Refusals.{number}
@@ -49,3 +49,8 @@ abbrev pub told : Answer → List Kept → List ℕ
 told (Stopped s) list =
     stop-line (s .word) (s .state .visits) (s .state .dropped) (s .state .kept) (s .state .waiting) ++ kept-lines (take (s .state .kept) list)
 told (Not-run x) list = refusal-line x
+
+-- how many kept boxes that tells, where the list has so many numbers
+abbrev pub lines-told : Answer → (numbers : ℕ) → ℕ
+lines-told (Stopped s) n = min (s .state .kept) (n / 7)
+lines-told (Not-run x) n = 0

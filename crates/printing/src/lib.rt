@@ -11,7 +11,7 @@ ghost use Prim.Native.Nat.{_+_, _*_, _≤_, min};
 ghost use lib.ListN.{length};
 ghost use Rattle.words.specs.Bytes.{over};
 ghost use Rattle.plain.specs.Lists.{listed};
-ghost use Rattle.printing.specs.Lines.{told};
+ghost use Rattle.printing.specs.Lines.{told, lines-told};
 
 fn least(a: usize, b: usize) -> usize
     ensures { λ r. ⌜ r ≡ min a b ⌝ }
@@ -21,7 +21,7 @@ fn least(a: usize, b: usize) -> usize
 
 // A number of the list has at most 5 digits, so that a record's line has at most 42 bytes.
 pub fn put_answer(t: &mut [u8], a: Answer, list: &[u16]) -> usize
-    requires { ⌜ 93 + 6 * length (now list) ≤ length (now t) ⌝ }
+    requires { ⌜ 93 + 42 * lines-told a (length (now list)) ≤ length (now t) ⌝ }
     ensures { λ r. ⌜ (r ≡ length (told a (listed (now (list .entry)))))
         × (now (t .exit) ≡ over (now (t .entry)) 0 (told a (listed (now (list .entry))))) ⌝ }
 {

@@ -9,7 +9,7 @@ use Rattle.records.specs.declared.runs.Stop.{Stop}
 use Rattle.plain.specs.Lists.{taken}
 use Rattle.text.proofs.Joining.{second-fits, joined}
 use Rattle.printing.specs.Lines.{kept-lines}
-use Rattle.printing.proofs.Telling.{first-line, told-stop, records-there, stop-fits}
+use Rattle.printing.proofs.Telling.{first-line, told-stop, records-there, stop-fits, stop-room}
 use Rattle.printing.proofs.put_answer.Statement.{statement}
 use Rattle.printing.proofs.put_answer.Tie as tie
 
@@ -35,7 +35,8 @@ module _ (c : tie.After-least) where
   fit : 0 + length (first-line stop ++ rest) ≤ length (s .args .t .now)
   fit =
       stop-fits stop xs (c .least .result) (c .least .ensures) (length (s .args .t .now)) (omega (arith, p .put-stop .ensures .0, p .put-stop .ensures .1 .0))
-      (λ i. omega (arith, p .before .before .before .before .before .before .shared-slice-known .given i)) (s .pre)
+      (λ i. omega (arith, p .before .before .before .before .before .before .shared-slice-known .given i))
+      (stop-room stop xs (c .least .result) (c .least .ensures) (s .args .a) (length (s .args .t .now)) (p .before .before .before .before .a .given .1) (s .pre))
 
 put-records-requires : tie.Need-put-records-requires
 put-records-requires c κs = (

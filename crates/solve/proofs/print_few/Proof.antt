@@ -1,0 +1,22 @@
+-- `print_few` is safe and ends: what is written are the bytes at the front of the text. Assumes nothing.
+use Prim.Native.Nat.{_≤_}
+use mathlib.Core.Path.{sym}
+use borrow.Author.Needs.{needs}
+use lib.ListN.{length}
+use lib.Seq.{length-take-le}
+use Rattle.plain.specs.Lists.{listed}
+use Rattle.printing.specs.Lines.{told}
+use Rattle.solve.proofs.Front.{front-there}
+use Rattle.solve.proofs.print_few.Statement.{statement}
+use Rattle.solve.proofs.print_few.Tie as tie
+
+there : (c : tie.After-tell-few) → c .tell-few .result ≤ length (c .tell-few .last .1 .1 .0)
+there c =
+    front-there (c .tell-few .last .1 .1 .0) (told (c .before .before .args .a) (listed (c .before .before .args .list .now))) _ (c .tell-few .result) (c .tell-few .ensures .0)
+    (c .tell-few .ensures .1)
+
+pub print-few-spec : {M : Type 1} → statement M
+print-few-spec =
+    tie.close
+    (tie.spec (λ c κs. search needs) there (λ c. sym (length-take-le (c .before .tell-few .result) (c .before .tell-few .last .1 .1 .0) (there (c .before)))) (λ c κs. search needs)
+    (λ c. search needs))
