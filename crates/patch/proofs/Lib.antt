@@ -4,8 +4,4 @@ pub mod Decided
 pub mod Chosen
 pub mod Tests
 pub mod Looking
-pub mod Working
 pub mod Laying
-pub mod Cutting
-pub mod Weighing
-pub mod Spreading

@@ -1,13 +1,11 @@
-// The numbers of one box, in a slot of the waiting store.
+// The numbers of one box, in a slot of the waiting store: its front, and what the rules say of it.
 use boxes::half::Direction;
 use boxes::visit::Sign;
 
-pub mod cuts;
-mod directions;
-mod fronts;
+pub mod directions;
+pub mod fronts;
 pub mod looks;
 pub mod numbers;
-pub mod starts;
 
 // The lowest polynomial whose numbers have one strict sign, if one has.
 pub enum Decision {

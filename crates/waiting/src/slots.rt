@@ -2,9 +2,9 @@
 use boxes::half::Box;
 use boxes::half::Direction;
 use boxes::visit::Outcome;
+use filling::cuts::box_of;
+use filling::cuts::cut;
 use heads::head::Head;
-use patch::cuts::box_of;
-use patch::cuts::cut;
 use patch::looks::look;
 use patch::numbers::all_within;
 use patch::numbers::clear;

@@ -48,7 +48,7 @@ fn fill(h: Head, coefficients: &[i64], store: &mut [i64])
 {
     let w = h.width();
     let stop = w + h.depth() * w;
-    patch::starts::start(&mut store[0..w], coefficients, h);
+    filling::starts::start(&mut store[0..w], coefficients, h);
     clear(&mut store[w..stop]);
 }
 

@@ -1,12 +1,12 @@
 // The cut of a slot into the two halves of its box.
-use crate::directions::blocks_in;
-use crate::directions::degree_in;
-use crate::directions::stride_in;
-use crate::fronts::count_at;
-use crate::fronts::put_box;
 use boxes::half::Box;
 use boxes::half::Direction;
 use heads::head::Head;
+use patch::directions::blocks_in;
+use patch::directions::degree_in;
+use patch::directions::stride_in;
+use patch::fronts::count_at;
+use patch::fronts::put_box;
 ghost use mathlib.Core.Path.{_≡_};
 ghost use mathlib.Core.Bool.{true};
 ghost use mathlib.Core.List.{_++_};

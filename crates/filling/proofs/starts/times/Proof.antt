@@ -5,9 +5,9 @@ use Prim.Native.Nat.{_^_}
 use lib.IntN.{_*ℤ_}
 use Rattle.whole.specs.Size.{Below}
 use Rattle.whole.proofs.Machine.{mul-fits, mul-is}
-use Rattle.patch.proofs.Weighing.{times-below}
-use Rattle.patch.proofs.starts.times.Statement.{statement}
-use Rattle.patch.proofs.starts.times.Tie as tie
+use Rattle.filling.proofs.Weighing.{times-below}
+use Rattle.filling.proofs.starts.times.Statement.{statement}
+use Rattle.filling.proofs.starts.times.Tie as tie
 
 small : (c : tie.After-of) → Below (2 ^ 63) (c .of .result *ℤ c .before .args .x)
 small c = rw (c .of .ensures) (times-below (c .before .args .w) (c .before .args .x) (c .before .pre .0) (c .before .pre .1))

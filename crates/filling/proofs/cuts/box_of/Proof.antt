@@ -2,9 +2,9 @@
 use mathlib.Core.Path.{refl}
 use native.Mathlib.Omega.{arith}
 use Rattle.bernstein.specs.Three.{first, second, third}
 use Rattle.patch.proofs.Laying.{position-high}
-use Rattle.patch.proofs.cuts.box_of.Statement.{statement}
-use Rattle.patch.proofs.cuts.box_of.Tie as tie
+use Rattle.filling.proofs.cuts.box_of.Statement.{statement}
+use Rattle.filling.proofs.cuts.box_of.Tie as tie
 
 returns : tie.Need-returns
 returns c =

@@ -9,8 +9,8 @@ use Rattle.bernstein.specs.Numbers.{half-box}
 use Rattle.boxes.specs.declared.half.Direction.{Direction}
 use Rattle.boxes.specs.Boxes.{direction, as-box, from-box, half-at}
 use Rattle.boxes.proofs.Halves.{half-with}
-use Rattle.patch.proofs.cuts.half_of.Statement.{statement}
-use Rattle.patch.proofs.cuts.half_of.Tie as tie
+use Rattle.filling.proofs.cuts.half_of.Statement.{statement}
+use Rattle.filling.proofs.cuts.half_of.Tie as tie
 
 -- the span that is halved, in the arm of direction q
 facts : (s : tie.Start) (q : Direction) → s .args .r ≡ q → ((as-box (s .args .b) ! direction q) .cuts < 10) × ((as-box (s .args .b) ! direction q) .position < 1024)

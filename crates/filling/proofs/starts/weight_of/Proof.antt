@@ -1,9 +1,9 @@
 -- `weight_of` meets its contract: the table that is lent has the weights. Assumes nothing.
 use native.Mathlib.Omega.{arith}
 use borrow.Author.Needs.{needs}
-use Rattle.patch.proofs.Weighing.{weight-high, row-high}
-use Rattle.patch.proofs.starts.weight_of.Statement.{statement}
-use Rattle.patch.proofs.starts.weight_of.Tie as tie
+use Rattle.filling.proofs.Weighing.{weight-high, row-high}
+use Rattle.filling.proofs.starts.weight_of.Statement.{statement}
+use Rattle.filling.proofs.starts.weight_of.Tie as tie
 
 returns : tie.Need-returns
 returns c =

@@ -1,11 +1,11 @@
 // The slot of a start: coefficients times their weights, then the steps along all lines of each direction.
-use crate::directions::blocks_in;
-use crate::directions::degree_in;
-use crate::directions::stride_in;
-use crate::fronts::put_box;
 use boxes::half::Box;
 use boxes::half::Direction;
 use heads::head::Head;
+use patch::directions::blocks_in;
+use patch::directions::degree_in;
+use patch::directions::stride_in;
+use patch::fronts::put_box;
 ghost use mathlib.Core.Path.{_≡_};
 ghost use mathlib.Core.Bool.{true};
 ghost use mathlib.Core.List.{_++_};
@@ -20,9 +20,9 @@ ghost use Rattle.bernstein.proofs.Boxes.{weighted};
 ghost use Rattle.bernstein.proofs.Spreads as Spreads;
 ghost use Rattle.heads.specs.Heads.{degrees, places, width, Limits};
 ghost use Rattle.boxes.specs.Boxes.{direction};
 ghost use Rattle.patch.specs.Slots.{at, polynomial, numbers, in-turn, unit-slot};
 ghost use Rattle.patch.specs.Rules.{every, within};
-ghost use Rattle.patch.specs.Inside.{Weights};
+ghost use Rattle.filling.specs.Inside.{Weights};
 
 // Row after row, scale / C(n, i) for i from 0 to n. A start makes the table once, and lends it.
 const WEIGHTS: [usize; 28] = [

@@ -1,9 +1,9 @@
 -- `spread` meets its contract: the steps along all lines of the blocks. Assumes nothing.
 use borrow.Author.Needs.{needs}
 use Rattle.boxes.specs.Boxes.{direction}
-use Rattle.patch.proofs.Spreading.{spread-ready, spread-made}
-use Rattle.patch.proofs.starts.spread.Statement.{statement}
-use Rattle.patch.proofs.starts.spread.Tie as tie
+use Rattle.filling.proofs.Spreading.{spread-ready, spread-made}
+use Rattle.filling.proofs.starts.spread.Statement.{statement}
+use Rattle.filling.proofs.starts.spread.Tie as tie
 
 spread-blocks-requires : tie.Need-spread-blocks-requires
 spread-blocks-requires c κs =

@@ -25,12 +25,12 @@ use Rattle.boxes.specs.Boxes.{as-box, from-box}
 use Rattle.heads.specs.Heads.{degrees, places, width, Limits}
 use Rattle.lines.specs.Lines.{In-blocks, only, Lines-spread, Ready-blocks}
 use Rattle.lines.proofs.Rooms.{only-room, off-blocks}
 use Rattle.patch.specs.Slots.{at, polynomial, numbers, in-turn, box-numbers, unit-slot}
 use Rattle.patch.specs.Rules.{every, within}
 use Rattle.patch.proofs.Builds.{build-at, in-turn-length, in-turn-filled}
 use Rattle.patch.proofs.Decided.{every-at}
-use Rattle.patch.proofs.Working.{all-blocks, blocks-low, where-upto, which-below, in-places, worked-at}
-use Rattle.patch.proofs.Weighing.{rebuilt}
+use Rattle.filling.proofs.Working.{all-blocks, blocks-low, where-upto, which-below, in-places, worked-at}
+use Rattle.filling.proofs.Weighing.{rebuilt}
 
 -- ---- the steps along all lines of direction r
 module _ (h : Head) (r : Direction) {o st n : ℕ} (eo : o ≡ h .m * blocks (degrees h) r) (es : st ≡ stride (degrees h) r) (en : n ≡ degrees h ! r) where

@@ -20,10 +20,10 @@ use Rattle.bernstein.proofs.Starts.{factor-le}
 use Rattle.bernstein.proofs.Boxes.{weighted}
 use Rattle.heads.specs.declared.head.Head.{Head}
 use Rattle.heads.specs.Heads.{degrees, places, width}
 use Rattle.patch.specs.Slots.{at, polynomial, in-turn}
-use Rattle.patch.specs.Inside.{Weights}
+use Rattle.filling.specs.Inside.{Weights}
 use Rattle.patch.proofs.Builds.{build-at, in-turn-length}
-use Rattle.patch.proofs.Working.{place-in}
+use Rattle.filling.proofs.Working.{place-in}
 
 -- ---- the weights: entry i of row n
 abbrev table : List ℕ

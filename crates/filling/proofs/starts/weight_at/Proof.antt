@@ -6,9 +6,9 @@ use borrow.Author.Needs.{needs}
 use Rattle.bernstein.specs.Three.{first, second, third}
 use Rattle.bernstein.proofs.Indices.{index-upto}
 use Rattle.heads.specs.Heads.{degrees}
-use Rattle.patch.proofs.Weighing.{three-high}
-use Rattle.patch.proofs.starts.weight_at.Statement.{statement}
-use Rattle.patch.proofs.starts.weight_at.Tie as tie
+use Rattle.filling.proofs.Weighing.{three-high}
+use Rattle.filling.proofs.starts.weight_at.Statement.{statement}
+use Rattle.filling.proofs.starts.weight_at.Tie as tie
 
 weight-of-requires : tie.Need-weight-of-requires
 weight-of-requires c κs =

@@ -8,10 +8,10 @@ use lib.ListN.{length}
 use Rattle.heads.specs.Heads.{places}
 use Rattle.heads.proofs.Heads.{size-low, places-high}
 use Rattle.whole.proofs.Machine.{back}
-use Rattle.patch.proofs.Weighing.{Weighing, weighing-start, weighing-on, weighing-end, heavy-made}
-use Rattle.patch.proofs.Spreading.{coefficient-high}
-use Rattle.patch.proofs.starts.weigh.Statement.{statement}
-use Rattle.patch.proofs.starts.weigh.Tie as tie
+use Rattle.filling.proofs.Weighing.{Weighing, weighing-start, weighing-on, weighing-end, heavy-made}
+use Rattle.filling.proofs.Spreading.{coefficient-high}
+use Rattle.filling.proofs.starts.weigh.Statement.{statement}
+use Rattle.filling.proofs.starts.weigh.Tie as tie
 
 abbrev Inv-loop : tie.InvT-loop
 Inv-loop slot₀ coefficients weights h size places x₀ slot x = Weighing h coefficients slot₀ slot x

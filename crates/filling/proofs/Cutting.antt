@@ -24,12 +24,12 @@ use Rattle.heads.specs.declared.head.Head.{Head}
 use Rattle.heads.specs.Heads.{degrees, places, width, Limits}
 use Rattle.lines.specs.Lines.{In-blocks, half-at, Lines-cut, Ready-blocks}
 use Rattle.lines.proofs.Rooms.{cut-room, off-blocks}
 use Rattle.patch.specs.Slots.{at, box-in, box-numbers, numbers, half-numbers, half-slot}
 use Rattle.patch.specs.Rules.{within, limit, can-cut}
 use Rattle.patch.proofs.Builds.{half-slot-length}
 use Rattle.patch.proofs.Decided.{every-at}
-use Rattle.patch.proofs.Working.{all-blocks, blocks-low, worked-at}
+use Rattle.filling.proofs.Working.{all-blocks, blocks-low, worked-at}
 use Rattle.patch.proofs.Laying.{Laid}
 
 -- ---- the lines can be cut
 pub cut-ready : (h : Head) (r : Direction) {l store : List ℤ} {w o st n : ℕ} → w ≡ width h → o ≡ h .m * blocks (degrees h) r → st ≡ stride (degrees h) r → n ≡ degrees h ! r

@@ -10,11 +10,11 @@ use Rattle.whole.specs.Half.{lower, upper}
 use Rattle.bernstein.specs.Three.{_!_}
 use Rattle.boxes.specs.Boxes.{direction, as-box, from-box}
 use Rattle.heads.specs.Heads.{width, places}
 use Rattle.patch.specs.Slots.{box-in, numbers}
 use Rattle.patch.proofs.Laying.{front-spans, front-box, front-cuts, Laid, laid, half-value}
-use Rattle.patch.proofs.Cutting.{cut-ready, as-blocks, cut-halves}
-use Rattle.patch.proofs.cuts.cut.Statement.{statement}
-use Rattle.patch.proofs.cuts.cut.Tie as tie
+use Rattle.filling.proofs.Cutting.{cut-ready, as-blocks, cut-halves}
+use Rattle.filling.proofs.cuts.cut.Statement.{statement}
+use Rattle.filling.proofs.cuts.cut.Tie as tie
 
 -- the slot that is cut, and its box
 abbrev slot : tie.Start → List ℤ

@@ -4,11 +4,11 @@ use mathlib.Core.List.{_++_}
 use borrow.Author.Needs.{needs}
 use Rattle.bernstein.specs.Three.{first, second, third}
 use Rattle.bernstein.specs.Numbers.{unit}
 use Rattle.patch.specs.Slots.{box-numbers}
-use Rattle.patch.proofs.Spreading.{staged, stage-ready, weighed, spread-on, start-is}
-use Rattle.patch.proofs.Weighing.{table-weighs}
-use Rattle.patch.proofs.starts.start.Statement.{statement}
-use Rattle.patch.proofs.starts.start.Tie as tie
+use Rattle.filling.proofs.Spreading.{staged, stage-ready, weighed, spread-on, start-is}
+use Rattle.filling.proofs.Weighing.{table-weighs}
+use Rattle.filling.proofs.starts.start.Statement.{statement}
+use Rattle.filling.proofs.starts.start.Tie as tie
 
 abbrev begin : tie.After-weigh → tie.Start
 begin c = c .before .before .before .before .before .before .before

@@ -1,0 +1,4 @@
+pub mod Working
+pub mod Cutting
+pub mod Weighing
+pub mod Spreading
