@@ -34,16 +34,5 @@ returns-2 c =
 pub malachirp-sizes-spec : {M : Type 1} → statement M
 malachirp-sizes-spec =
     tie.close
-    (tie.spec
-    (λ c κs. search needs)
-    (λ c κs. search needs)
-    (λ c. search needs)
-    (λ c κs. search needs)
-    (λ c κs. search needs)
-    (λ c. search needs)
-    (λ c κs. search needs)
-    mul-needed
-    (λ c. search needs)
-    (λ c κs. search needs)
-    returns
-    returns-2)
+    (tie.spec (λ c κs. search needs) (λ c κs. search needs) (λ c. search needs) (λ c κs. search needs) (λ c κs. search needs) (λ c. search needs)
+    (λ c κs. search needs) mul-needed (λ c. search needs) (λ c κs. search needs) returns returns-2)
