@@ -10,6 +10,7 @@ import sys
 
 ROOT = pathlib.Path(__file__).resolve().parent.parent
 CRATES = {p.name for p in (ROOT / "crates").iterdir() if p.is_dir()}
+SPEECH = {"crate", "Child"}  # what stands before `/`, `::` or `!` and is no crate
 
 
 def text_of(folder, suffix):
@@ -54,8 +55,8 @@ def names_in(text):
     for cited in re.findall(r"`([^`\n]+)`", text):
         for form, exists in FORMS:
             found = form.match(cited)
-            if found and found.group(1) in CRATES:
-                yield cited, exists(found.group(1), found.group(2))
+            if found and found.group(1) not in SPEECH:
+                yield cited, found.group(1) in CRATES and exists(found.group(1), found.group(2))
 
 
 def main():

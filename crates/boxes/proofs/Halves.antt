@@ -16,9 +16,9 @@ use Rattle.bernstein.specs.Numbers.{Span, span, half-span, half-box}
 use Rattle.boxes.specs.declared.half.Box.{Box}
 use Rattle.boxes.specs.declared.half.Child.{Child}
 use Rattle.boxes.specs.Claims.{Box-allowed, Child-half}
-use Rattle.heads.specs.Directions.{direction-number, direction-at, between}
+use Rattle.system.specs.Directions.{direction-number, direction-at, between}
 use Rattle.boxes.specs.Boxes.{as-box, from-box, box-ok, Allowed, refused, half-in, half-of, half-at}
-use Rattle.heads.proofs.Says.{Says, le-says, lt-says, and-says, each-says, says-as, and-left}
+use Rattle.system.proofs.Says.{Says, le-says, lt-says, and-says, each-says, says-as, and-left}
 
 -- ---- allowed boxes
 pub box-says : (b : Box) → Says (box-ok b) (Allowed (as-box b))

@@ -8,9 +8,9 @@ use Rattle.bernstein.specs.Three
 use Rattle.bernstein.specs.Three.{three, _!_, first, second, third}
 use Rattle.bernstein.specs.Numbers
 use Rattle.bernstein.specs.Numbers.{Span, span, half-box}
-use Rattle.heads.specs.Directions.{direction-at, each, between}
-use Rattle.heads.specs.Refusals.{at-start}
-use Rattle.heads.specs.declared.refusal.Refusal.{Refusal}
+use Rattle.system.specs.Directions.{direction-at, each, between}
+use Rattle.system.specs.Refusals.{at-start}
+use Rattle.system.specs.declared.refusal.Refusal.{Refusal}
 use Rattle.boxes.specs.declared.half.Direction.{Direction}
 use Rattle.boxes.specs.declared.half.Box.{Box}
 use Rattle.boxes.specs.declared.half.Child.{Child}

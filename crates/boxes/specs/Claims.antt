@@ -9,7 +9,7 @@ use Rattle.whole.specs.Half.{Half}
 use Rattle.bernstein.specs.Numbers.{Span, half-box}
 use Rattle.boxes.specs.declared.half.Box.{Box}
 use Rattle.boxes.specs.declared.half.Child.{Child}
-use Rattle.heads.specs.Directions.{direction-at}
+use Rattle.system.specs.Directions.{direction-at}
 use Rattle.boxes.specs.Boxes.{as-box, box-ok, Allowed, half-of}
 use Rattle.boxes.specs.Middles.{over-power, middle, half-width, Exactly}
 

@@ -7,9 +7,9 @@ use mathlib.Core.Bool.{false, cond}
 use lib.IntN.{negsuc}
 use lib.Ieee.{Float, nan, inf, fin, up, down}
 use Rattle.bernstein.specs.Numbers.{Span}
-use Rattle.heads.specs.Refusals.{at-start}
+use Rattle.system.specs.Refusals.{at-start}
 use Rattle.boxes.specs.Boxes.{as-box, box-ok}
-use Rattle.heads.specs.declared.refusal.Refusal.{Refusal}
+use Rattle.system.specs.declared.refusal.Refusal.{Refusal}
 use Rattle.boxes.specs.declared.half.Box.{Box}
 use Rattle.boxes.specs.declared.middle.Middles.{Middles}
 use Rattle.boxes.specs.declared.middle.Placed.{Placed}

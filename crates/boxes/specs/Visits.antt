@@ -3,7 +3,7 @@ use Prim.Native.Nat.{ℕ}
 use mathlib.Core.List.{List, [], _∷_, _++_}
 use Rattle.bernstein.specs.Points
 use Rattle.bernstein.specs.Points.{above, below}
-use Rattle.heads.specs.Directions.{direction-number}
+use Rattle.system.specs.Directions.{direction-number}
 use Rattle.boxes.specs.Boxes.{direction}
 use Rattle.boxes.specs.declared.half.Box.{Box}
 use Rattle.boxes.specs.declared.visit.Sign.{Sign}

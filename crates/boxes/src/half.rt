@@ -1,15 +1,15 @@
 // A box by value, and its halves down a path: a child has the same methods, so a refusal travels along.
-use heads::refusal::Refusal;
-use heads::refusal::Refused;
-use heads::test::both;
-use heads::test::from_to;
+use system::refusal::Refusal;
+use system::refusal::Refused;
+use system::test::both;
+use system::test::from_to;
 ghost use mathlib.Core.Path.{_≡_};
 ghost use mathlib.Core.Bool.{true};
 ghost use Prim.Native.Nat.{_≤_};
 ghost use Rattle.whole.specs.Half as Half;
 ghost use Rattle.bernstein.specs.Three.{_!_, replace};
 ghost use Rattle.bernstein.specs.Numbers.{span, unit};
-ghost use Rattle.heads.specs.Directions.{direction-number, direction-at};
+ghost use Rattle.system.specs.Directions.{direction-number, direction-at};
 ghost use Rattle.boxes.specs.Boxes.{direction, as-box, from-box, span-ok, box-ok, refused, half-in, half-of, half-on, half-at};
 
 pub enum Direction {

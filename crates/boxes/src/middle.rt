@@ -1,7 +1,7 @@
 // The middle and the half width of a box in each direction, as doubles, exact.
 use crate::half::Box;
-use heads::refusal::Refusal;
-use heads::refusal::Refused;
+use system::refusal::Refusal;
+use system::refusal::Refused;
 ghost use mathlib.Core.Path.{_≡_};
 ghost use Prim.Native.Nat.{_+_, _^_, _%_, _≤_, _<_};
 ghost use Rattle.bernstein.specs.Numbers.{span};

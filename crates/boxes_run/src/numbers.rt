@@ -5,7 +5,7 @@ use boxes::half::Direction;
 use boxes::visit::Outcome;
 use boxes::visit::Sign;
 use boxes::visit::Word;
-use heads::refusal::Refusal;
+use system::refusal::Refusal;
 
 fn numbered(w: Refusal, number: u8) -> bool {
     w.number() == number

@@ -1,6 +1,6 @@
 // A line for each example, and what the others share.
-use heads::refusal::Refused;
 use libc::STDOUT_FILENO;
+use system::refusal::Refused;
 
 pub fn say(what: &[u8], ok: bool) {
     io::write_all(STDOUT_FILENO, what);

@@ -2,8 +2,8 @@
 use crate::say::at_zero;
 use crate::say::both;
 use crate::say::say;
-use heads::head::Checked;
-use heads::head::Head;
+use system::head::Checked;
+use system::head::Head;
 
 fn system(l: u8, n1: u8, n2: u8, n3: u8, g1: u8) -> Head {
     Head {

@@ -4,7 +4,7 @@ use crate::input::middling;
 use crate::input::number_at;
 use crate::input::small;
 use boxes::half::Box;
-use heads::head::Head;
+use system::head::Head;
 use waiting::state::State;
 
 pub fn both(a: bool, b: bool) -> bool {

@@ -1,6 +1,6 @@
 // What a call tells, as plain numbers: an answer of a word and some numbers, and the state after the call.
 use crate::answers;
-use heads::refusal::Refused;
+use system::refusal::Refused;
 use waiting::state::State;
 
 // The words by their numbers in `answers`, 0 for none. The word `then` follows the first number.

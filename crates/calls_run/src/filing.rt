@@ -9,7 +9,7 @@ use file::parser::Step;
 use file::parser::body_at;
 use file::parser::record_at;
 use file::reading::Answer;
-use heads::head::Head;
+use system::head::Head;
 use waiting::state::State;
 use writing::Written;
 

@@ -8,9 +8,9 @@ use calls::header;
 use calls::told;
 use calls::told::Told;
 use calls::told::refused;
-use heads::head::Checked;
-use records::runs::Stop;
-use records::visits::Seen;
+use runs::runs::Stop;
+use runs::visits::Seen;
+use system::head::Checked;
 use waiting::start::Started;
 use waiting::state::State;
 
@@ -89,17 +89,17 @@ fn tell_seen(x: Seen) -> Told {
     tell_outcome(o, b, s)
 }
 
-fn tell_visit(a: records::visits::Answer, s: State) -> Told {
+fn tell_visit(a: runs::visits::Answer, s: State) -> Told {
     match a {
-        records::visits::Answer::Saw(x) => tell_seen(x),
-        records::visits::Answer::Stopped(w) => tell_stop(w, s),
-        records::visits::Answer::Refused(r) => refused(r, s),
+        runs::visits::Answer::Saw(x) => tell_seen(x),
+        runs::visits::Answer::Stopped(w) => tell_stop(w, s),
+        runs::visits::Answer::Refused(r) => refused(r, s),
     }
 }
 
 pub fn visit(b: &[u8], store: &mut [i64], list: &mut [u16]) -> Told {
     let s = header::state_of(b);
-    let a = plain::visits::visit(store, list, header::head_of(b), s);
+    let a = runs::plain::visits::visit(store, list, header::head_of(b), s);
     tell_visit(a, s)
 }
 
@@ -109,15 +109,15 @@ fn tell_stopped(x: Stop) -> Told {
     tell_stop(w, s)
 }
 
-fn tell_run(a: records::runs::Answer, s: State) -> Told {
+fn tell_run(a: runs::runs::Answer, s: State) -> Told {
     match a {
-        records::runs::Answer::Stopped(x) => tell_stopped(x),
-        records::runs::Answer::Refused(r) => refused(r, s),
+        runs::runs::Answer::Stopped(x) => tell_stopped(x),
+        runs::runs::Answer::Refused(r) => refused(r, s),
     }
 }
 
 pub fn run(b: &[u8], store: &mut [i64], list: &mut [u16]) -> Told {
     let s = header::state_of(b);
-    let a = plain::runs::run(store, list, header::head_of(b), s, header::budget_of(b));
+    let a = runs::plain::runs::run(store, list, header::head_of(b), s, header::budget_of(b));
     tell_run(a, s)
 }

@@ -9,14 +9,14 @@ use Rattle.whole.proofs.Parts.{by-lt}
 use Rattle.whole.proofs.Order.{<ℤ-trans}
 use Rattle.bernstein.specs.Points.{Has}
 use Rattle.bernstein.specs.Places.{size}
-use Rattle.heads.specs.declared.head.Head.{Head}
+use Rattle.system.specs.declared.head.Head.{Head}
 use Rattle.boxes.specs.declared.half.Direction.{Direction}
 use Rattle.boxes.specs.declared.visit.Sign.{Sign}
 use Rattle.boxes.specs.declared.visit.Sign.the-variants.{Above, Below}
-use Rattle.heads.specs.Heads.{degrees}
+use Rattle.system.specs.Heads.{degrees}
 use Rattle.boxes.specs.Visits.{sign}
-use Rattle.heads.proofs.Heads.{size-low}
-use Rattle.patch.specs.Slots.{at, numbers}
+use Rattle.system.proofs.Heads.{size-low}
+use Rattle.slots.specs.Slots.{at, numbers}
 use Rattle.search.specs.Search.{is-dropped, is-kept, is-cut}
 use Rattle.claims.specs.Rules.{cuts, OneSided, Drop-due, At-depth, Direction-due, Can-be-cut, Says, Rules-decide}
 use Rattle.claims.proofs.Rules.{number, number-once}

@@ -8,29 +8,29 @@ use native.Mathlib.Omega.{arith}
 use lib.IntN.{ℤ}
 use lib.ListN.{length, length-map}
 use Rattle.bernstein.specs.Numbers.{Box}
-use Rattle.heads.specs.declared.head.Head.{Head}
-use Rattle.heads.specs.declared.head.Checked.{Checked}
-use Rattle.heads.specs.declared.head.Checked.the-variants.{Good, Refused as Stopped-by}
+use Rattle.system.specs.declared.head.Head.{Head}
+use Rattle.system.specs.declared.head.Checked.{Checked}
+use Rattle.system.specs.declared.head.Checked.the-variants.{Good, Refused as Stopped-by}
 use Rattle.boxes.specs.declared.visit.Visit as Seen
 use Rattle.boxes.specs.declared.visit.Word.{Word}
 use Rattle.search.specs.Machine.{Machine, Turn, nothing, no-room, go, Stop, stop, finished, full, drive}
 use Rattle.search.specs.Search.{Entry}
 use Rattle.search.specs.Lent.{lent}
 use Rattle.search.proofs.Machine.{drive-nothing, drive-spent, drive-full, drive-go, go-waits, no-room-waits}
-use Rattle.records.specs.declared.runs.Answer.{Answer}
-use Rattle.records.specs.declared.visits.Answer as Visit
-use Rattle.records.specs.Runs.{Run, run-of}
-use Rattle.records.specs.Visits.{One, visit-of}
+use Rattle.runs.specs.declared.runs.Answer.{Answer}
+use Rattle.runs.specs.declared.visits.Answer as Visit
+use Rattle.runs.specs.Runs.{Run, run-of}
+use Rattle.runs.specs.Visits.{One, visit-of}
 use Rattle.waiting.specs.declared.state.State.{State}
-use Rattle.steps.specs.declared.cursor.Kept.{Kept}
-use Rattle.steps.specs.declared.cursor.Cursor.{Cursor}
+use Rattle.waiting.specs.declared.cursor.Kept.{Kept}
+use Rattle.waiting.specs.declared.cursor.Cursor.{Cursor}
 use Rattle.waiting.specs.Cells.{cells}
 use Rattle.waiting.specs.States.{judged}
 use Rattle.waiting.specs.States.{memory-of, state-of}
-use Rattle.steps.specs.Steps.{begun, due, seen}
-use Rattle.steps.specs.Runs.{Way, way, turned, went, forget, remember, Ends, One-turn}
+use Rattle.waiting.specs.Steps.{begun, due, seen}
+use Rattle.waiting.specs.Runs.{Way, way, turned, went, forget, remember, Ends, One-turn}
 use Rattle.waiting.proofs.Judging.{judged-allowed}
-use Rattle.steps.proofs.Driving.{run-drives, turn-turns, remembered}
+use Rattle.waiting.proofs.Driving.{run-drives, turn-turns, remembered}
 use Rattle.claims.specs.Calls.{Memory, called}
 use Rattle.claims.specs.Caller.{Gives, Run-is-a-call, Tells, Visit-is-a-visit, Same-effects, Visit-is-a-run, Refusal-changes-nothing}
 

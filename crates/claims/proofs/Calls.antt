@@ -12,12 +12,12 @@ use lib.ListN.{length, take}
 use lib.Seq.{take-take}
 use Rattle.whole.specs.Half.{Half, lower, upper}
 use Rattle.bernstein.specs.Numbers.{Box, unit}
-use Rattle.heads.specs.declared.head.Head.{Head}
-use Rattle.heads.specs.declared.head.Checked.{Checked}
-use Rattle.heads.specs.Heads.{depth, width, Limits}
+use Rattle.system.specs.declared.head.Head.{Head}
+use Rattle.system.specs.declared.head.Checked.{Checked}
+use Rattle.system.specs.Heads.{depth, width, Limits}
 use Rattle.boxes.specs.Boxes.{direction}
-use Rattle.heads.proofs.Heads.{depth-high}
-use Rattle.patch.specs.Slots.{unit-slot, half-slot, box-in}
+use Rattle.system.proofs.Heads.{depth-high}
+use Rattle.slots.specs.Slots.{unit-slot, half-slot, box-in}
 use Rattle.search.specs.Lists.{All, Both, sum}
 use Rattle.search.specs.Machine.{BothStop}
 use Rattle.search.specs.Search.{is-dropped, is-kept, is-cut, Entry, States, Log, state, start, become, run, log}
@@ -34,7 +34,7 @@ use Rattle.waiting.proofs.Measures.{measured}
 use Rattle.waiting.specs.States.{judged}
 use Rattle.waiting.specs.States.{memory-of, state-of}
 use Rattle.waiting.proofs.Judging.{judged-allowed}
-use Rattle.steps.proofs.Keeping.{Kept-in, allowed-in}
+use Rattle.waiting.proofs.Keeping.{Kept-in, allowed-in}
 use Rattle.waiting.proofs.Standing.{Stands, stands-closed, unit-allowed}
 use Rattle.waiting.proofs.Starting.{start-passes, fresh-held, fresh-length, start-fit}
 use Rattle.waiting.proofs.Sounds.{passes, sound}

@@ -8,16 +8,16 @@ use lib.IntN.{ℤ}
 use lib.ListN.{length}
 use Rattle.bernstein.specs.Numbers.{Box}
 use Rattle.bernstein.proofs.Boxes.{sign-holds}
-use Rattle.heads.specs.declared.head.Checked.{Checked}
+use Rattle.system.specs.declared.head.Checked.{Checked}
 use Rattle.waiting.specs.Starts.{start-check}
 use Rattle.waiting.proofs.Starting.{start-passes, fresh-held, start-fit}
-use Rattle.heads.specs.declared.head.Head.{Head}
+use Rattle.system.specs.declared.head.Head.{Head}
 use Rattle.boxes.specs.declared.visit.Sign.{Sign}
 use Rattle.boxes.specs.declared.half.Direction.{Direction}
 use Rattle.boxes.specs.Boxes.{direction}
-use Rattle.heads.specs.Heads.{depth, width, Limits}
-use Rattle.patch.specs.Slots.{box-in, numbers, polynomial, unit-slot}
-use Rattle.patch.specs.Rules.{looked}
+use Rattle.system.specs.Heads.{depth, width, Limits}
+use Rattle.slots.specs.Slots.{box-in, numbers, polynomial, unit-slot}
+use Rattle.slots.specs.Rules.{looked}
 use Rattle.search.specs.Lists.{All, Any}
 use Rattle.search.specs.Machine.{Answer, finished, spent, full}
 use Rattle.search.specs.Search.{Look, Entry, Visit, States, is-dropped, is-kept, start}

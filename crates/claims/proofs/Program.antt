@@ -9,13 +9,13 @@ use lib.IntN.{ℤ, pos}
 use lib.ListN.{length, take, replicate, length-map, length-replicate}
 use lib.Seq.{length-take-le}
 use Rattle.bernstein.specs.Numbers.{Box}
-use Rattle.heads.specs.declared.head.Head.{Head}
-use Rattle.heads.specs.declared.head.Checked.{Checked}
-use Rattle.heads.specs.declared.refusal.Refused.{Refused}
+use Rattle.system.specs.declared.head.Head.{Head}
+use Rattle.system.specs.declared.head.Checked.{Checked}
+use Rattle.system.specs.declared.refusal.Refused.{Refused}
 use Rattle.boxes.specs.declared.visit.Word.{Word}
-use Rattle.heads.specs.Heads.{places, width, Limits}
-use Rattle.heads.proofs.Heads.{head-says}
-use Rattle.patch.specs.Rules.{every, within}
+use Rattle.system.specs.Heads.{places, width, Limits}
+use Rattle.system.proofs.Heads.{head-says}
+use Rattle.slots.specs.Rules.{every, within}
 use Rattle.search.specs.Machine.{Answer, finished, spent, full, Stop}
 use Rattle.search.specs.Search.{Entry, States}
 use Rattle.search.specs.Claims.{Means}
@@ -25,18 +25,18 @@ use Rattle.waiting.specs.Cells.{cells}
 use Rattle.waiting.specs.States.{needed, state-of}
 use Rattle.waiting.specs.Starts.{start-check, start-answer, start-store, fresh-state, fresh-store}
 use Rattle.waiting.proofs.Starting.{start-passes}
-use Rattle.steps.specs.declared.cursor.Kept.{Kept}
-use Rattle.steps.specs.Runs.{forget, remember, word-of}
-use Rattle.records.specs.Runs.{Run, run-of}
-use Rattle.words.specs.Bytes.{byte, Bytes}
+use Rattle.waiting.specs.declared.cursor.Kept.{Kept}
+use Rattle.waiting.specs.Runs.{forget, remember, word-of}
+use Rattle.runs.specs.Runs.{Run, run-of}
+use Rattle.file.specs.Bytes.{byte, Bytes}
 use Rattle.file.specs.Reading.{reads}
 use Rattle.file.specs.declared.reading.Answer as Read
 use Rattle.file.specs.declared.reading.Answer.the-variants.{System, Refused as Not-read}
 use Rattle.writing.specs.Writing.{all-in-range}
 use Rattle.writing.proofs.Claims.{in-limits}
-use Rattle.plain.specs.Lists.{first, taken, listed}
-use Rattle.text.specs.Text.{line}
-use Rattle.printing.specs.Lines.{word, refusal-line, stop-line, kept-lines, told}
+use Rattle.runs.specs.Lists.{first, taken, listed}
+use Rattle.desk.specs.Text.{line}
+use Rattle.desk.specs.Lines.{word, refusal-line, stop-line, kept-lines, told}
 use Rattle.desk.specs.Report.{Found, run-found, system-found, found, report}
 use Rattle.desk.proofs.Finding.{found-begun, found-read, found-unread}
 use Rattle.desk.proofs.Room.{room-enough}

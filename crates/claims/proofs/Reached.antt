@@ -9,34 +9,34 @@ use lib.IntN.{ℤ}
 use lib.ListN.{length, take, drop, length-map}
 use lib.Seq.{take-append-le, take-take, length-take-le}
 use Rattle.bernstein.specs.Numbers.{Box}
-use Rattle.heads.specs.declared.head.Head.{Head}
-use Rattle.heads.specs.declared.head.Checked.{Checked}
-use Rattle.heads.specs.declared.head.Checked.the-variants.{Good as Passed, Refused as Stopped-by}
+use Rattle.system.specs.declared.head.Head.{Head}
+use Rattle.system.specs.declared.head.Checked.{Checked}
+use Rattle.system.specs.declared.head.Checked.the-variants.{Good as Passed, Refused as Stopped-by}
 use Rattle.boxes.specs.Boxes.{as-box}
-use Rattle.heads.specs.Heads.{width}
-use Rattle.patch.specs.Slots.{box-in}
+use Rattle.system.specs.Heads.{width}
+use Rattle.slots.specs.Slots.{box-in}
 use Rattle.search.specs.Lists.{Any}
 use Rattle.search.specs.Search.{Entry}
 use Rattle.search.specs.Claims.{Held}
 use Rattle.search.specs.Lent.{slot, stack, slots, memory, used, lent}
 use Rattle.waiting.specs.declared.state.State.{State}
 use Rattle.waiting.specs.declared.start.Started.{Started}
-use Rattle.steps.specs.declared.cursor.Kept.{Kept}
+use Rattle.waiting.specs.declared.cursor.Kept.{Kept}
 use Rattle.waiting.specs.Cells.{cells}
 use Rattle.waiting.specs.Fits.{Fit, Point, LiesIn}
 use Rattle.waiting.specs.States.{SlotAllowed, judged}
 use Rattle.waiting.specs.Starts.{start-check, start-answer, start-store}
 use Rattle.waiting.specs.States.{state-of}
-use Rattle.steps.specs.Runs.{forget, remember}
-use Rattle.steps.proofs.Driving.{remembered}
+use Rattle.waiting.specs.Runs.{forget, remember}
+use Rattle.waiting.proofs.Driving.{remembered}
 use Rattle.waiting.proofs.Starting.{start-passes}
-use Rattle.records.specs.declared.runs.Stop.{Stop}
-use Rattle.records.specs.declared.runs.Answer as Run
-use Rattle.records.specs.declared.visits.Seen.{Seen}
-use Rattle.records.specs.declared.visits.Answer as Visit
-use Rattle.records.specs.Runs.{run-of}
-use Rattle.records.specs.Visits.{visit-of}
-use Rattle.records.specs.Tables.{box-of}
+use Rattle.runs.specs.declared.runs.Stop.{Stop}
+use Rattle.runs.specs.declared.runs.Answer as Run
+use Rattle.runs.specs.declared.visits.Seen.{Seen}
+use Rattle.runs.specs.declared.visits.Answer as Visit
+use Rattle.runs.specs.Runs.{run-of}
+use Rattle.runs.specs.Visits.{visit-of}
+use Rattle.runs.specs.Tables.{box-of}
 use Rattle.claims.specs.Calls.{Memory, fresh, called, Begun, at-start, continued, boxes-of}
 use Rattle.claims.specs.Caller.{Gives}
 use Rattle.claims.specs.Reached.{by-start, by-run, by-visit, with-longer, Shows, Stands-for, Reached-is-begun, Never-refused, Reached-exact, Reached-holds}

@@ -13,17 +13,17 @@ use lib.ListN.{length}
 use Rattle.whole.proofs.Parts.{by-lt}
 use Rattle.bernstein.specs.Three.{_!_}
 use Rattle.bernstein.specs.Places.{size}
-use Rattle.heads.specs.declared.head.Head.{Head}
+use Rattle.system.specs.declared.head.Head.{Head}
 use Rattle.boxes.specs.declared.half.Direction.{Direction}
 use Rattle.boxes.specs.declared.half.Direction.the-variants.{First, Second, Third}
 use Rattle.boxes.specs.declared.visit.Outcome.{Outcome}
 use Rattle.boxes.specs.Boxes.{direction}
-use Rattle.heads.specs.Directions.{direction-number}
-use Rattle.heads.specs.Heads.{degrees, width}
-use Rattle.patch.specs.declared.Decision.{Decision}
-use Rattle.patch.specs.declared.Choice.{Choice}
-use Rattle.patch.specs.Slots.{at, numbers}
-use Rattle.patch.specs.Rules.{decided, better, chosen, limit, can-cut, by-choice, by-decision, looked}
+use Rattle.system.specs.Directions.{direction-number}
+use Rattle.system.specs.Heads.{degrees, width}
+use Rattle.slots.specs.declared.Decision.{Decision}
+use Rattle.slots.specs.declared.Choice.{Choice}
+use Rattle.slots.specs.Slots.{at, numbers}
+use Rattle.slots.specs.Rules.{decided, better, chosen, limit, can-cut, by-choice, by-decision, looked}
 use Rattle.waiting.specs.Cells.{as-look}
 use Rattle.waiting.proofs.Judging.{every-says}
 use Rattle.claims.specs.Rules.{cuts, most, Mixed-below, Direction-due, Can-be-cut, Says, Rules-mean}

@@ -11,15 +11,15 @@ use lib.ListN.{length, take, drop, length-take, length-drop}
 use lib.Seq.{getD-take, getD-drop, drop-drop}
 use Rattle.bernstein.specs.Points.{Has}
 use Rattle.bernstein.specs.Places.{size}
-use Rattle.heads.specs.declared.head.Head.{Head}
+use Rattle.system.specs.declared.head.Head.{Head}
 use Rattle.boxes.specs.declared.visit.Sign.{Sign}
 use Rattle.boxes.specs.declared.visit.Sign.the-variants.{Above, Below}
-use Rattle.heads.specs.Heads.{degrees, places, width}
+use Rattle.system.specs.Heads.{degrees, places, width}
 use Rattle.boxes.specs.Visits.{sign}
-use Rattle.patch.specs.declared.Decision.{Decision}
-use Rattle.patch.specs.Slots.{at, numbers}
-use Rattle.patch.specs.Rules.{every, has, decided}
-use Rattle.patch.proofs.Decided.{every-at}
+use Rattle.slots.specs.declared.Decision.{Decision}
+use Rattle.slots.specs.Slots.{at, numbers}
+use Rattle.slots.specs.Rules.{every, has, decided}
+use Rattle.slots.proofs.Decided.{every-at}
 use Rattle.claims.specs.Rules.{OneSided, Mixed-below}
 
 -- ---- 1. by the tests of the parts of a list

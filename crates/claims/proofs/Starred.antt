@@ -4,21 +4,21 @@ use Rattle.whole.specs.Sums.{sum-to, choose}
 use Rattle.bernstein.specs.Three.{sum-upto}
 use Rattle.bernstein.specs.Numbers.{formula, scale, weight, after, half-line}
 use Rattle.bernstein.specs.Places.{place, size}
-use Rattle.heads.specs.Heads.{places, head-ok}
-use Rattle.patch.specs.Slots.{build, in-turn, half-slot, unit-slot}
-use Rattle.patch.specs.Rules.{every, decided, chosen, looked}
+use Rattle.system.specs.Heads.{places, head-ok}
+use Rattle.slots.specs.Slots.{build, in-turn, half-slot, unit-slot}
+use Rattle.slots.specs.Rules.{every, decided, chosen, looked}
 use Rattle.search.specs.Lent.{lent-become}
 use Rattle.waiting.specs.States.{span-ok, slot-ok, slots-ok, counts-ok, judged}
 use Rattle.waiting.specs.Starts.{start-check, fresh-store}
-use Rattle.steps.specs.Steps.{due, visited, next}
-use Rattle.steps.specs.Runs.{went}
-use Rattle.words.specs.Bytes.{signed32}
+use Rattle.waiting.specs.Steps.{due, visited, next}
+use Rattle.waiting.specs.Runs.{went}
+use Rattle.file.specs.Bytes.{signed32}
 use Rattle.file.specs.Records.{due as record-due}
 use Rattle.file.specs.Terms.{term, terms, coefficients}
 use Rattle.file.specs.Reading.{polynomial, ending, polynomials, numbers-of, checked, reads}
-use Rattle.text.specs.Text.{digits, decimal, ended, line}
-use Rattle.plain.specs.Lists.{taken}
-use Rattle.printing.specs.Lines.{kept-lines}
+use Rattle.desk.specs.Text.{digits, decimal, ended, line}
+use Rattle.runs.specs.Lists.{taken}
+use Rattle.desk.specs.Lines.{kept-lines}
 use Rattle.desk.specs.Report.{run-found, system-found, file-found, found, report}
 use Rattle.claims.specs.Starred.{Starred-right}
 use Rattle.claims.specs.Program.{Prints-F}

@@ -10,14 +10,14 @@ use lib.ListN.{length, take, drop, replicate, length-replicate, length-take, rep
 use lib.Seq.{drop-at, drop-drop, drop-set-lt, take-set-le}
 use Rattle.whole.specs.Half.{Half, lower, upper}
 use Rattle.bernstein.specs.Numbers.{Box}
-use Rattle.heads.specs.declared.head.Head.{Head}
-use Rattle.heads.specs.declared.head.Checked.{Checked}
+use Rattle.system.specs.declared.head.Head.{Head}
+use Rattle.system.specs.declared.head.Checked.{Checked}
 use Rattle.boxes.specs.declared.half.Direction.{Direction}
 use Rattle.boxes.specs.declared.visit.Sign.{Sign}
 use Rattle.boxes.specs.Boxes.{direction}
-use Rattle.heads.specs.Heads.{depth, width, Limits}
-use Rattle.patch.specs.Slots.{half-slot, unit-slot}
-use Rattle.patch.proofs.Builds.{half-slot-length, unit-slot-length}
+use Rattle.system.specs.Heads.{depth, width, Limits}
+use Rattle.slots.specs.Slots.{half-slot, unit-slot}
+use Rattle.slots.proofs.Builds.{half-slot-length, unit-slot-length}
 use Rattle.search.specs.Machine.{go}
 use Rattle.search.specs.Search.{Look, is-dropped, is-kept, is-cut, Entry}
 use Rattle.search.specs.Lent.{put, slot, stack, in-slot, given-up, lent, lent-become, lent-top}
@@ -27,7 +27,7 @@ use Rattle.search.proofs.Slots.{stack-length, put-length}
 use Rattle.waiting.specs.Cells.{cells, left}
 use Rattle.waiting.specs.States.{needed}
 use Rattle.waiting.specs.Starts.{start-check, fresh-store}
-use Rattle.steps.proofs.Keeping.{Kept-in, visit-in}
+use Rattle.waiting.proofs.Keeping.{Kept-in, visit-in}
 use Rattle.waiting.proofs.Starting.{start-passes}
 use Rattle.claims.specs.Calls.{Memory, called, Begun, at-start, continued}
 use Rattle.claims.specs.Demands.{ListStays, Store-beyond, List-beyond}

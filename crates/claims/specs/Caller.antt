@@ -7,27 +7,27 @@ use Prim.Native.Nat.{ℕ}
 use lib.IntN.{ℤ}
 use lib.ListN.{length}
 use Rattle.bernstein.specs.Numbers.{Box}
-use Rattle.heads.specs.declared.head.Head.{Head}
-use Rattle.heads.specs.declared.head.Checked.{Checked}
-use Rattle.heads.specs.declared.refusal.Refused.{Refused}
+use Rattle.system.specs.declared.head.Head.{Head}
+use Rattle.system.specs.declared.head.Checked.{Checked}
+use Rattle.system.specs.declared.refusal.Refused.{Refused}
 use Rattle.boxes.specs.declared.visit.Word.{Word}
-use Rattle.patch.specs.Rules.{looked}
+use Rattle.slots.specs.Rules.{looked}
 use Rattle.search.specs.Machine.{Turn, nothing, no-room, go}
 use Rattle.search.specs.Search.{Entry}
 use Rattle.search.specs.Lent.{lent}
 use Rattle.waiting.specs.declared.state.State.{State}
-use Rattle.steps.specs.declared.cursor.Kept.{Kept}
+use Rattle.waiting.specs.declared.cursor.Kept.{Kept}
 use Rattle.waiting.specs.Cells.{cells}
 use Rattle.waiting.specs.States.{judged}
 use Rattle.waiting.specs.States.{memory-of, state-of}
-use Rattle.steps.specs.Steps.{top, visit-of as seen-in}
-use Rattle.steps.specs.Runs.{Way, forget, word-of}
-use Rattle.records.specs.declared.runs.Answer.{Answer}
-use Rattle.records.specs.declared.runs.Answer.the-variants.{Stopped as Ran, Refused as Not-run}
-use Rattle.records.specs.declared.visits.Answer as Visit
-use Rattle.records.specs.declared.visits.Answer.the-variants.{Saw, Stopped as Not-made, Refused as Not-visited}
-use Rattle.records.specs.Runs.{Run, run-of}
-use Rattle.records.specs.Visits.{One, visit-of}
+use Rattle.waiting.specs.Steps.{top, visit-of as seen-in}
+use Rattle.waiting.specs.Runs.{Way, forget, word-of}
+use Rattle.runs.specs.declared.runs.Answer.{Answer}
+use Rattle.runs.specs.declared.runs.Answer.the-variants.{Stopped as Ran, Refused as Not-run}
+use Rattle.runs.specs.declared.visits.Answer as Visit
+use Rattle.runs.specs.declared.visits.Answer.the-variants.{Saw, Stopped as Not-made, Refused as Not-visited}
+use Rattle.runs.specs.Runs.{Run, run-of}
+use Rattle.runs.specs.Visits.{One, visit-of}
 use Rattle.claims.specs.Calls.{Memory, called}
 
 -- the list and the store, every place: a record of the list is an entry without its visit number

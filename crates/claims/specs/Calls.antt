@@ -6,7 +6,7 @@ use Prim.Native.Nat.{ℕ, _≤_}
 use lib.IntN.{ℤ}
 use lib.ListN.{length}
 use Rattle.bernstein.specs.Numbers.{Box}
-use Rattle.heads.specs.declared.head.Head.{Head}
+use Rattle.system.specs.declared.head.Head.{Head}
 use Rattle.search.specs.Machine.{Stop, drive, trace}
 use Rattle.search.specs.Search.{Entry, States, Log}
 use Rattle.search.specs.Lent.{Lent, memory, lent, slots, held, used}

@@ -7,12 +7,12 @@ use lib.IntN.{ℤ, pos}
 use lib.ListN.{length, take, drop, replicate}
 use Rattle.bernstein.specs.Numbers.{Box, unit}
 use Rattle.bernstein.specs.Points.{Has, value}
-use Rattle.heads.specs.declared.head.Head.{Head}
-use Rattle.heads.specs.declared.head.Checked.{Checked}
+use Rattle.system.specs.declared.head.Head.{Head}
+use Rattle.system.specs.declared.head.Checked.{Checked}
 use Rattle.boxes.specs.declared.visit.Sign.{Sign}
-use Rattle.heads.specs.Heads.{degrees, depth, width}
+use Rattle.system.specs.Heads.{degrees, depth, width}
 use Rattle.boxes.specs.Visits.{sign}
-use Rattle.patch.specs.Slots.{box-in, polynomial, unit-slot}
+use Rattle.slots.specs.Slots.{box-in, polynomial, unit-slot}
 use Rattle.search.specs.Lists.{All, Any}
 use Rattle.search.specs.Machine.{finished}
 use Rattle.search.specs.Search.{Entry, Visit, is-dropped, is-kept, start, run, log}

@@ -6,9 +6,9 @@ use Prim.Native.Nat.{ℕ, _*_}
 use lib.IntN.{ℤ, pos}
 use lib.ListN.{length, replicate}
 use Rattle.bernstein.specs.Numbers.{Box, unit}
-use Rattle.heads.specs.declared.head.Head.{Head}
-use Rattle.heads.specs.declared.head.Checked.{Checked}
-use Rattle.heads.specs.declared.refusal.Refused.{Refused}
+use Rattle.system.specs.declared.head.Head.{Head}
+use Rattle.system.specs.declared.head.Checked.{Checked}
+use Rattle.system.specs.declared.refusal.Refused.{Refused}
 use Rattle.boxes.specs.declared.visit.Word.{Word}
 use Rattle.boxes.specs.Boxes.{as-box}
 use Rattle.search.specs.Lists.{Any}
@@ -17,14 +17,14 @@ use Rattle.search.specs.Search.{Entry}
 use Rattle.waiting.specs.Fits.{Point, LiesIn, CommonZero}
 use Rattle.waiting.specs.Starts.{start-check}
 use Rattle.waiting.specs.States.{state-of}
-use Rattle.steps.specs.declared.cursor.Kept.{Kept}
-use Rattle.steps.specs.Runs.{forget, remember, word-of}
-use Rattle.records.specs.Tables.{box-of}
-use Rattle.plain.specs.Lists.{first}
-use Rattle.words.specs.Bytes.{Bytes}
+use Rattle.waiting.specs.declared.cursor.Kept.{Kept}
+use Rattle.waiting.specs.Runs.{forget, remember, word-of}
+use Rattle.runs.specs.Tables.{box-of}
+use Rattle.runs.specs.Lists.{first}
+use Rattle.file.specs.Bytes.{Bytes}
 use Rattle.file.specs.Reading.{reads}
 use Rattle.file.specs.declared.reading.Answer as Read
-use Rattle.printing.specs.Lines.{word, refusal-line, stop-line, kept-lines}
+use Rattle.desk.specs.Lines.{word, refusal-line, stop-line, kept-lines}
 use Rattle.desk.specs.Report.{report}
 use Rattle.claims.specs.Calls.{Memory, fresh, called, boxes-of}
 use Rattle.claims.specs.Reached.{Reached}

@@ -7,28 +7,28 @@ use Prim.Native.Nat.{ℕ, _≤_, _<_}
 use lib.IntN.{ℤ}
 use lib.ListN.{length, take}
 use Rattle.bernstein.specs.Numbers.{unit}
-use Rattle.heads.specs.declared.head.Head.{Head}
-use Rattle.heads.specs.declared.head.Checked.{Checked}
+use Rattle.system.specs.declared.head.Head.{Head}
+use Rattle.system.specs.declared.head.Checked.{Checked}
 use Rattle.boxes.specs.Boxes.{as-box}
-use Rattle.heads.specs.Heads.{width}
-use Rattle.patch.specs.Slots.{box-in}
+use Rattle.system.specs.Heads.{width}
+use Rattle.slots.specs.Slots.{box-in}
 use Rattle.search.specs.Lists.{Any}
 use Rattle.search.specs.Lent.{slot, stack}
 use Rattle.waiting.specs.declared.state.State.{State}
 use Rattle.waiting.specs.declared.start.Started.{Started}
-use Rattle.steps.specs.declared.cursor.Kept.{Kept}
+use Rattle.waiting.specs.declared.cursor.Kept.{Kept}
 use Rattle.waiting.specs.Fits.{Fit, Point, LiesIn, CommonZero}
 use Rattle.waiting.specs.States.{SlotAllowed, judged}
 use Rattle.waiting.specs.Starts.{start-check, start-answer, start-store}
 use Rattle.waiting.specs.States.{state-of}
-use Rattle.steps.specs.Runs.{forget}
-use Rattle.records.specs.declared.runs.Stop.{Stop}
-use Rattle.records.specs.declared.runs.Answer as Run
-use Rattle.records.specs.declared.visits.Seen.{Seen}
-use Rattle.records.specs.declared.visits.Answer as Visit
-use Rattle.records.specs.Runs.{run-of}
-use Rattle.records.specs.Visits.{visit-of}
-use Rattle.records.specs.Tables.{box-of}
+use Rattle.waiting.specs.Runs.{forget}
+use Rattle.runs.specs.declared.runs.Stop.{Stop}
+use Rattle.runs.specs.declared.runs.Answer as Run
+use Rattle.runs.specs.declared.visits.Seen.{Seen}
+use Rattle.runs.specs.declared.visits.Answer as Visit
+use Rattle.runs.specs.Runs.{run-of}
+use Rattle.runs.specs.Visits.{visit-of}
+use Rattle.runs.specs.Tables.{box-of}
 use Rattle.claims.specs.Calls.{Memory, Begun}
 
 -- The state that the caller has, and what the list and the waiting store hold: after a start, a run or a visit that was not refused, each as its contract says

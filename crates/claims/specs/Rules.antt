@@ -9,15 +9,15 @@ use lib.ListN.{length}
 use Rattle.bernstein.specs.Three.{_!_}
 use Rattle.bernstein.specs.Points.{Has}
 use Rattle.bernstein.specs.Places.{size}
-use Rattle.heads.specs.declared.head.Head.{Head}
+use Rattle.system.specs.declared.head.Head.{Head}
 use Rattle.boxes.specs.declared.half.Direction.{Direction}
 use Rattle.boxes.specs.declared.visit.Sign.{Sign}
 use Rattle.boxes.specs.Boxes.{direction}
-use Rattle.heads.specs.Directions.{direction-number}
-use Rattle.heads.specs.Heads.{degrees, depths, places, width}
+use Rattle.system.specs.Directions.{direction-number}
+use Rattle.system.specs.Heads.{degrees, depths, places, width}
 use Rattle.boxes.specs.Visits.{sign}
-use Rattle.patch.specs.Slots.{at, box-in, numbers}
-use Rattle.patch.specs.Rules.{looked}
+use Rattle.slots.specs.Slots.{at, box-in, numbers}
+use Rattle.slots.specs.Rules.{looked}
 use Rattle.search.specs.Search.{Look, is-dropped, is-kept, is-cut}
 use Rattle.waiting.specs.Cells.{as-look}
 

@@ -7,18 +7,18 @@ use lib.IntN.{ℤ, pos, negsuc}
 use lib.ListN.{replicate}
 use Rattle.whole.specs.Half.{Half, lower, upper}
 use Rattle.bernstein.specs.Three.{Direction, first}
-use Rattle.heads.specs.declared.head.Head.{Head}
-use Rattle.heads.specs.declared.head.Checked.{Checked}
+use Rattle.system.specs.declared.head.Head.{Head}
+use Rattle.system.specs.declared.head.Checked.{Checked}
 use Rattle.boxes.specs.declared.visit.Word.{Word}
-use Rattle.heads.specs.Heads.{checked}
-use Rattle.patch.specs.Slots.{start-numbers, half-numbers}
+use Rattle.system.specs.Heads.{checked}
+use Rattle.slots.specs.Slots.{start-numbers, half-numbers}
 use Rattle.search.specs.Lists.{All}
 use Rattle.waiting.specs.declared.start.Started.{Started}
 use Rattle.waiting.specs.States.{needed}
 use Rattle.waiting.specs.Starts.{start-check, start-answer, start-store, fresh-state}
-use Rattle.steps.specs.Steps.{nothing-kept}
-use Rattle.records.specs.declared.runs.Answer.{Answer}
-use Rattle.records.specs.Runs.{run-of}
+use Rattle.waiting.specs.Steps.{nothing-kept}
+use Rattle.runs.specs.declared.runs.Answer.{Answer}
+use Rattle.runs.specs.Runs.{run-of}
 
 pub data Case : Type 0 where
   -- the starting numbers of a system with these coefficients

@@ -3,8 +3,8 @@ use Prim.Native.Nat.{ℕ}
 use mathlib.Core.Path.{_≡_, refl, sym, ap, _∙_}
 use mathlib.Core.List.{List}
 use lib.IntN.{ℤ}
-use Rattle.heads.specs.declared.head.Head.{Head}
-use Rattle.heads.specs.declared.refusal.Refused.{Refused}
+use Rattle.system.specs.declared.head.Head.{Head}
+use Rattle.system.specs.declared.refusal.Refused.{Refused}
 use Rattle.file.specs.Reading.{reads}
 use Rattle.file.specs.declared.reading.Answer.{Answer}
 use Rattle.file.specs.declared.reading.Answer.the-variants.{System, Refused as Not-read}
@@ -12,10 +12,10 @@ use Rattle.waiting.specs.Starts.{start-check, start-answer, start-store}
 use Rattle.waiting.specs.declared.start.Started.{Started}
 use Rattle.waiting.specs.declared.start.Started.the-variants.{Begun, Refused as Not-begun}
 use Rattle.waiting.specs.declared.state.State.{State}
-use Rattle.records.specs.Runs.{run-of}
-use Rattle.records.specs.declared.runs.Answer as Ran
-use Rattle.plain.specs.Lists.{listed, relisted}
-use Rattle.plain.proofs.Lists.{same-listed}
+use Rattle.runs.specs.Runs.{run-of}
+use Rattle.runs.specs.declared.runs.Answer as Ran
+use Rattle.runs.specs.Lists.{listed, relisted}
+use Rattle.runs.proofs.Lists.{same-listed}
 use Rattle.desk.specs.Report.{Found, refused, run-found, started-found, system-found, read-found, file-found}
 
 -- the answer and the list's numbers are those of what is found

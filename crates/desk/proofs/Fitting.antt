@@ -6,10 +6,10 @@ use mathlib.Core.List.{List, _++_}
 use native.Mathlib.Omega.{arith}
 use borrow.Author.Tests.{leb-true}
 use lib.ListN.{length, drop}
-use Rattle.words.specs.Bytes.{over}
-use Rattle.records.specs.declared.runs.Answer.{Answer}
-use Rattle.records.specs.declared.runs.Answer.the-variants.{Stopped, Refused}
-use Rattle.printing.specs.Lines.{lines-told}
+use Rattle.file.specs.Bytes.{over}
+use Rattle.runs.specs.declared.runs.Answer.{Answer}
+use Rattle.runs.specs.declared.runs.Answer.the-variants.{Stopped, Refused}
+use Rattle.desk.specs.Lines.{lines-told}
 use Rattle.desk.specs.Report.{few-kept}
 
 -- of a list of n numbers, in a text of t bytes

@@ -1,3 +1,9 @@
+pub mod Decimals
+pub mod Stepping
+pub mod Joining
+pub mod Sizes
+pub mod Lists
+pub mod Telling
 pub mod Finding
 pub mod Fitting
 pub mod Room

@@ -2,8 +2,8 @@
 use Prim.Native.Nat.{suc, _≤_}
 use native.Mathlib.Omega.{arith}
 use native.Mathlib.Nat.{mul-le-mul}
-use Rattle.heads.specs.Heads.{depth}
-use Rattle.heads.proofs.Heads.{places-high, width-high, depth-high}
+use Rattle.system.specs.Heads.{depth}
+use Rattle.system.proofs.Heads.{places-high, width-high, depth-high}
 use Rattle.desk.specs.Report.{Room-enough}
 
 pub room-enough : Room-enough

@@ -6,9 +6,9 @@ use mathlib.Core.List.{List}
 use lib.Dec.{leb}
 use lib.IntN.{ℤ, pos}
 use lib.ListN.{replicate}
-use Rattle.heads.specs.declared.head.Head.{Head}
-use Rattle.heads.specs.declared.refusal.Refused.{Refused}
-use Rattle.heads.specs.Heads.{places, Limits}
+use Rattle.system.specs.declared.head.Head.{Head}
+use Rattle.system.specs.declared.refusal.Refused.{Refused}
+use Rattle.system.specs.Heads.{places, Limits}
 use Rattle.file.specs.Reading.{reads}
 use Rattle.file.specs.declared.reading.Answer.{Answer}
 use Rattle.file.specs.declared.reading.Answer.the-variants.{System, Refused as Not-read}
@@ -17,12 +17,12 @@ use Rattle.waiting.specs.States.{needed}
 use Rattle.waiting.specs.declared.start.Started.{Started}
 use Rattle.waiting.specs.declared.start.Started.the-variants.{Begun, Refused as Not-begun}
 use Rattle.waiting.specs.declared.state.State.{State}
-use Rattle.steps.specs.declared.cursor.Kept.{Kept}
-use Rattle.records.specs.declared.runs.Answer as Ran
-use Rattle.records.specs.declared.runs.Answer.the-variants.{Stopped, Refused as Not-run}
-use Rattle.records.specs.Runs.{run-of}
-use Rattle.plain.specs.Lists.{listed}
-use Rattle.printing.specs.Lines.{told}
+use Rattle.waiting.specs.declared.cursor.Kept.{Kept}
+use Rattle.runs.specs.declared.runs.Answer as Ran
+use Rattle.runs.specs.declared.runs.Answer.the-variants.{Stopped, Refused as Not-run}
+use Rattle.runs.specs.Runs.{run-of}
+use Rattle.runs.specs.Lists.{listed}
+use Rattle.desk.specs.Lines.{told}
 
 -- the answer, and the records that the list then holds; list is what its numbers were before
 pub record Found : Type 0 where

@@ -1,15 +1,18 @@
 // What the desk program finds in a system file, and the text that tells it (01, "The program").
+pub mod printing;
+pub mod text;
+
+use crate::printing::put_answer;
 use file::reading::Answer as Reading;
-use heads::head::Head;
-use printing::put_answer;
-use records::runs::Answer;
+use runs::runs::Answer;
+use system::head::Head;
 use waiting::start::Started;
 ghost use mathlib.Core.Path.{_≡_};
 ghost use mathlib.Core.Bool.{true};
 ghost use mathlib.Core.List.{_++_};
 ghost use lib.ListN.{length, drop};
-ghost use Rattle.plain.specs.Lists.{listed, relisted};
-ghost use Rattle.printing.specs.Lines.{told};
+ghost use Rattle.runs.specs.Lists.{listed, relisted};
+ghost use Rattle.desk.specs.Lines.{told};
 ghost use Rattle.desk.specs.Report.{system-found, file-found, found, few-kept};
 
 fn search_system(h: Head, coefficients: &[i64], store: &mut [i64], list: &mut [u16]) -> Answer
@@ -18,7 +21,7 @@ fn search_system(h: Head, coefficients: &[i64], store: &mut [i64], list: &mut [u
 {
     let started = waiting::start::start(h, coefficients, store);
     match started {
-        Started::Begun(s) => plain::runs::run(store, list, h, s, 1000000),
+        Started::Begun(s) => runs::plain::runs::run(store, list, h, s, 1000000),
         Started::Refused(x) => Answer::Refused(x),
     }
 }

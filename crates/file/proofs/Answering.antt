@@ -7,13 +7,13 @@ use native.Mathlib.Omega.{arith}
 use borrow.Author.Tests.{le-leb, lt-leb}
 use lib.IntN.{ℤ}
 use lib.ListN.{length, drop}
-use Rattle.heads.specs.Heads.{places, head-ok}
-use Rattle.heads.specs.declared.refusal.Refusal.the-variants.{OutOfLimits, TooShort}
-use Rattle.heads.specs.declared.refusal.Refused as refusal
-use Rattle.heads.specs.declared.head.Head.{Head}
-use Rattle.heads.specs.declared.head.Checked.{Checked}
-use Rattle.heads.specs.declared.head.Checked.the-variants.{Good, Refused}
-use Rattle.heads.specs.Chain.{test}
+use Rattle.system.specs.Heads.{places, head-ok}
+use Rattle.system.specs.declared.refusal.Refusal.the-variants.{OutOfLimits, TooShort}
+use Rattle.system.specs.declared.refusal.Refused as refusal
+use Rattle.system.specs.declared.head.Head.{Head}
+use Rattle.system.specs.declared.head.Checked.{Checked}
+use Rattle.system.specs.declared.head.Checked.the-variants.{Good, Refused}
+use Rattle.system.specs.Chain.{test}
 use Rattle.file.specs.Layout.{layout}
 use Rattle.file.specs.Records.{length-of, due}
 use Rattle.file.specs.Reading.{head-shape, polynomials, numbers-of, head-of, checked, numbers, reads}

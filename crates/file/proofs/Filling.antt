@@ -11,8 +11,8 @@ use lib.Dec.{ltb}
 use lib.IntN.{ℤ, pos}
 use lib.ListN.{length, take, drop, set, length-set, length-drop, length-append, take-append-drop}
 use lib.Seq.{take-suc-set, drop-set-lt, take-at, drop-at, drop-drop, length-take-le, append-snoc}
-use Rattle.words.specs.Bytes.{word16}
-use Rattle.heads.specs.declared.head.Checked.the-variants.{Good}
+use Rattle.file.specs.Bytes.{word16}
+use Rattle.system.specs.declared.head.Checked.the-variants.{Good}
 use Rattle.file.specs.Layout.{Layout}
 use Rattle.file.specs.Records.{length-of}
 use Rattle.file.specs.Terms.{place-of, value-of, here, coefficients}

@@ -7,9 +7,9 @@ use native.Mathlib.Omega.{arith}
 use borrow.Author.Tests.{leb-true, le-leb, lt-ltb, eq-eqb, ne-eqb}
 use lib.Dec.{leb, ltb}
 use lib.ListN.{length, drop}
-use Rattle.heads.specs.declared.refusal.Refusal.the-variants.{ExponentTooHigh, BadCoefficient, NotRising}
-use Rattle.heads.specs.declared.head.Checked.the-variants.{Good}
-use Rattle.heads.specs.Chain.{test}
+use Rattle.system.specs.declared.refusal.Refusal.the-variants.{ExponentTooHigh, BadCoefficient, NotRising}
+use Rattle.system.specs.declared.head.Checked.the-variants.{Good}
+use Rattle.system.specs.Chain.{test}
 use Rattle.file.specs.Layout.{Layout}
 use Rattle.file.specs.Terms.{exponents, place-of, value-of, in-range, is-zero, term, terms, here, coefficients}
 use Rattle.file.proofs.Tests.{both, and-intro, not-not, passed, pass, parts, chain}

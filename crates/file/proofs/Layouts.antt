@@ -9,9 +9,9 @@ use Rattle.bernstein.specs.Numbers.{Degrees, Index}
 use Rattle.bernstein.specs.Places.{place, size, index}
 use Rattle.bernstein.proofs.Indices.{place-index, index-place, index-upto}
 use Rattle.bernstein.proofs.Places.{place-below}
-use Rattle.heads.specs.Heads.{degrees}
-use Rattle.heads.proofs.Says.{Says, le-says, each-says}
-use Rattle.heads.specs.declared.head.Head.{Head}
+use Rattle.system.specs.Heads.{degrees}
+use Rattle.system.proofs.Says.{Says, le-says, each-says}
+use Rattle.system.specs.declared.head.Head.{Head}
 use Rattle.file.specs.Layout.{Layout, layout}
 
 pub record Lawful (L : Layout) : Type 0 where

@@ -1,3 +1,5 @@
+pub mod Words
+pub mod Putting
 pub mod Tests
 pub mod Layouts
 pub mod Stepping
@@ -6,3 +8,4 @@ pub mod InOrder
 pub mod Walking
 pub mod Filling
 pub mod Answering
+mod Readers

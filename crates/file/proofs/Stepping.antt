@@ -7,13 +7,13 @@ use native.Mathlib.Omega.{arith}
 use borrow.Author.Tests.{le-leb, lt-leb, eq-eqb, ne-eqb, leb-true, eqb-true}
 use lib.Dec.{leb, eqb}
 use lib.ListN.{length, take, drop, length-drop}
-use Rattle.words.specs.Bytes.{word16}
-use Rattle.words.proofs.Words.{byte-drop}
-use Rattle.heads.proofs.Says.{Says, le-says, eq-says, and-says}
-use Rattle.heads.specs.declared.refusal.Refusal.the-variants.{Ended, NotDue, WrongLength}
-use Rattle.heads.specs.declared.refusal.Refused as refusal
-use Rattle.heads.specs.declared.head.Checked.the-variants.{Good}
-use Rattle.heads.specs.Chain.{refused, test}
+use Rattle.file.specs.Bytes.{word16}
+use Rattle.file.proofs.Words.{byte-drop}
+use Rattle.system.proofs.Says.{Says, le-says, eq-says, and-says}
+use Rattle.system.specs.declared.refusal.Refusal.the-variants.{Ended, NotDue, WrongLength}
+use Rattle.system.specs.declared.refusal.Refused as refusal
+use Rattle.system.specs.declared.head.Checked.the-variants.{Good}
+use Rattle.system.specs.Chain.{refused, test}
 use Rattle.file.specs.Records.{length-of, kind-of, step, body, fits, due}
 use Rattle.file.specs.declared.parser.Shape.{Shape}
 use Rattle.file.specs.declared.parser.Step.{Step}

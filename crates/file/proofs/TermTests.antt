@@ -10,11 +10,11 @@ use lib.IntN.{ℤ, pos, negsuc}
 use lib.Signed.{leZ}
 use lib.ListN.{drop}
 use Rattle.bernstein.specs.Three.{three}
-use Rattle.words.specs.Bytes.{byte, word32, signed32}
-use Rattle.words.proofs.Words.{byte-drop}
-use Rattle.heads.specs.declared.refusal.Refusal.the-variants.{ExponentTooHigh, BadCoefficient, NotRising}
-use Rattle.heads.specs.declared.head.Checked.the-variants.{Good}
-use Rattle.heads.specs.Chain.{refused}
+use Rattle.file.specs.Bytes.{byte, word32, signed32}
+use Rattle.file.proofs.Words.{byte-drop}
+use Rattle.system.specs.declared.refusal.Refusal.the-variants.{ExponentTooHigh, BadCoefficient, NotRising}
+use Rattle.system.specs.declared.head.Checked.the-variants.{Good}
+use Rattle.system.specs.Chain.{refused}
 use Rattle.file.specs.Layout.{Layout}
 use Rattle.file.specs.Terms.{exponents, place-of, value-of, in-range, is-zero, term}
 

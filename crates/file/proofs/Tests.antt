@@ -3,11 +3,11 @@ use mathlib.Core.Path.{_≡_, refl, sym}
 use mathlib.Core.Bool.{Bool, true, false, _&&_, not}
 use Prim.Native.Nat.{ℕ}
 use native.Mathlib.Omega.{arith}
-use Rattle.heads.specs.declared.refusal.Refusal.{Refusal}
-use Rattle.heads.specs.declared.refusal.Refused as refusal
-use Rattle.heads.specs.declared.head.Checked.{Checked}
-use Rattle.heads.specs.declared.head.Checked.the-variants.{Good, Refused}
-use Rattle.heads.specs.Chain.{test, _then_}
+use Rattle.system.specs.declared.refusal.Refusal.{Refusal}
+use Rattle.system.specs.declared.refusal.Refused as refusal
+use Rattle.system.specs.declared.head.Checked.{Checked}
+use Rattle.system.specs.declared.head.Checked.the-variants.{Good, Refused}
+use Rattle.system.specs.Chain.{test, _then_}
 
 pub no-way : {A : Type 0} → true ≡ false → A
 no-way e = let z : _≡_ {A = ℕ} 0 1 = cc in absurd (omega arith)

@@ -7,16 +7,16 @@ use borrow.Author.Tests.{le-leb, lt-leb, eq-eqb, ne-eqb, eqb-true}
 use lib.Dec.{eqb}
 use lib.ListN.{length, drop, length-drop}
 use lib.Seq.{drop-drop}
-use Rattle.words.specs.Bytes.{byte, word16}
-use Rattle.words.proofs.Words.{byte-drop}
-use Rattle.heads.specs.Heads as Heads
-use Rattle.heads.specs.Heads.{head-ok}
-use Rattle.heads.specs.declared.refusal.Refusal.the-variants.{NotDue, OutOfLimits, ExtraBytes}
-use Rattle.heads.specs.declared.refusal.Refused as refusal
-use Rattle.heads.specs.declared.head.Head.{Head}
-use Rattle.heads.specs.declared.head.Checked.{Checked}
-use Rattle.heads.specs.declared.head.Checked.the-variants.{Good, Refused}
-use Rattle.heads.specs.Chain.{refused, test}
+use Rattle.file.specs.Bytes.{byte, word16}
+use Rattle.file.proofs.Words.{byte-drop}
+use Rattle.system.specs.Heads as Heads
+use Rattle.system.specs.Heads.{head-ok}
+use Rattle.system.specs.declared.refusal.Refusal.the-variants.{NotDue, OutOfLimits, ExtraBytes}
+use Rattle.system.specs.declared.refusal.Refused as refusal
+use Rattle.system.specs.declared.head.Head.{Head}
+use Rattle.system.specs.declared.head.Checked.{Checked}
+use Rattle.system.specs.declared.head.Checked.the-variants.{Good, Refused}
+use Rattle.system.specs.Chain.{refused, test}
 use Rattle.file.specs.Layout.{Layout, layout}
 use Rattle.file.specs.Records.{length-of, due}
 use Rattle.file.specs.Terms.{place-of, term, terms}

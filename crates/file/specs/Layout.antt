@@ -5,9 +5,9 @@ use lib.Dec.{leb}
 use Rattle.bernstein.specs.Three.{_!_}
 use Rattle.bernstein.specs.Numbers.{Index}
 use Rattle.bernstein.specs.Places
-use Rattle.heads.specs.Directions.{each}
-use Rattle.heads.specs.Heads.{degrees}
-use Rattle.heads.specs.declared.head.Head.{Head}
+use Rattle.system.specs.Directions.{each}
+use Rattle.system.specs.Heads.{degrees}
+use Rattle.system.specs.declared.head.Head.{Head}
 
 -- how many places there are; which exponents; their place; and the exponents at a place
 pub record Layout : Type 0 where

@@ -1,4 +1,6 @@
+pub mod Bytes
 pub mod Layout
 pub mod Records
 pub mod Terms
 pub mod Reading
+pub mod Reads

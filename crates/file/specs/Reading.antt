@@ -5,13 +5,13 @@ use mathlib.Core.List.{List, [], _++_}
 use lib.Dec.{leb, eqb}
 use lib.IntN.{ℤ}
 use lib.ListN.{length, drop}
-use Rattle.words.specs.Bytes.{byte}
-use Rattle.heads.specs.Heads.{places, head-ok}
-use Rattle.heads.specs.declared.refusal.Refusal.{Refusal}
-use Rattle.heads.specs.declared.head.Head.{Head}
-use Rattle.heads.specs.declared.head.Checked.{Checked}
-use Rattle.heads.specs.declared.head.Checked.the-variants.{Good, Refused}
-use Rattle.heads.specs.Chain.{test, _then_}
+use Rattle.file.specs.Bytes.{byte}
+use Rattle.system.specs.Heads.{places, head-ok}
+use Rattle.system.specs.declared.refusal.Refusal.{Refusal}
+use Rattle.system.specs.declared.head.Head.{Head}
+use Rattle.system.specs.declared.head.Checked.{Checked}
+use Rattle.system.specs.declared.head.Checked.the-variants.{Good, Refused}
+use Rattle.system.specs.Chain.{test, _then_}
 use Rattle.file.specs.Layout.{Layout, layout}
 use Rattle.file.specs.Records.{length-of, due}
 use Rattle.file.specs.Terms.{terms, coefficients}

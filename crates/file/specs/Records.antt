@@ -5,10 +5,10 @@ use mathlib.Core.Bool.{Bool, cond, _&&_}
 use mathlib.Core.List.{List, []}
 use lib.Dec.{leb, eqb}
 use lib.ListN.{length, take, drop}
-use Rattle.words.specs.Bytes.{word16}
-use Rattle.heads.specs.declared.refusal.Refusal.{Refusal}
-use Rattle.heads.specs.declared.head.Checked.{Checked}
-use Rattle.heads.specs.Chain.{test, _then_}
+use Rattle.file.specs.Bytes.{word16}
+use Rattle.system.specs.declared.refusal.Refusal.{Refusal}
+use Rattle.system.specs.declared.head.Checked.{Checked}
+use Rattle.system.specs.Chain.{test, _then_}
 use Rattle.file.specs.declared.parser.Shape.{Shape}
 use Rattle.file.specs.declared.parser.Step.{Step}
 use Rattle.file.specs.declared.parser.Step.the-variants.{Record, Refused}

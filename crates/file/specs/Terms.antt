@@ -8,10 +8,10 @@ use lib.IntN.{ℤ, pos, natAbs}
 use lib.ListN.{drop}
 use Rattle.bernstein.specs.Three.{three}
 use Rattle.bernstein.specs.Numbers.{Index}
-use Rattle.words.specs.Bytes.{byte, word32, signed32}
-use Rattle.heads.specs.declared.refusal.Refusal.{Refusal}
-use Rattle.heads.specs.declared.head.Checked.{Checked}
-use Rattle.heads.specs.Chain.{test, _then_}
+use Rattle.file.specs.Bytes.{byte, word32, signed32}
+use Rattle.system.specs.declared.refusal.Refusal.{Refusal}
+use Rattle.system.specs.declared.head.Checked.{Checked}
+use Rattle.system.specs.Chain.{test, _then_}
 use Rattle.file.specs.Layout.{Layout}
 
 abbrev pub exponents : List ℕ → Index

@@ -1,7 +1,7 @@
 // The records of a file: one record from an offset on, its body as a part of the lent file, and the record that is due.
-use heads::head::Checked;
-use heads::refusal::Refusal;
-use heads::refusal::Refused;
+use system::head::Checked;
+use system::refusal::Refusal;
+use system::refusal::Refused;
 ghost use mathlib.Core.Path.{_≡_};
 ghost use Prim.Native.Nat.{_<_};
 ghost use lib.ListN.{drop};
@@ -41,7 +41,7 @@ pub fn record_at(file: &[u8], at: usize) -> Step
             at,
         });
     }
-    let len = words::two(file, at);
+    let len = crate::bytes::two(file, at);
     if left - 4 < len {
         return Step::Refused(Refused {
             why: Refusal::Ended,
@@ -49,7 +49,7 @@ pub fn record_at(file: &[u8], at: usize) -> Step
         });
     }
     Step::Record {
-        kind: words::two(file, at + 2),
+        kind: crate::bytes::two(file, at + 2),
         start: at + 4,
         len,
     }
@@ -107,13 +107,13 @@ pub(crate) fn due_at(file: &[u8], at: usize, kind: usize, shape: Shape) -> Check
             at,
         });
     }
-    if words::two(file, at + 2) != kind {
+    if crate::bytes::two(file, at + 2) != kind {
         return Checked::Refused(Refused {
             why: Refusal::NotDue,
             at,
         });
     }
-    let len = words::two(file, at);
+    let len = crate::bytes::two(file, at);
     if !allowed(shape, len) {
         return Checked::Refused(Refused {
             why: Refusal::WrongLength,

@@ -3,15 +3,15 @@ use crate::parser::Shape;
 use crate::parser::due_at;
 use crate::terms::fill_places;
 use crate::terms::terms_at;
-use heads::head::Checked;
-use heads::head::Head;
-use heads::refusal::Refusal;
-use heads::refusal::Refused;
+use system::head::Checked;
+use system::head::Head;
+use system::refusal::Refusal;
+use system::refusal::Refused;
 ghost use mathlib.Core.Path.{_≡_};
 ghost use mathlib.Core.List.{_++_};
 ghost use Prim.Native.Nat.{_≤_};
 ghost use lib.ListN.{length, drop};
-ghost use Rattle.heads.specs.Heads.{places};
+ghost use Rattle.system.specs.Heads.{places};
 ghost use Rattle.file.specs.Layout.{layout};
 ghost use Rattle.file.specs.Reading.{polynomial, ending, polynomials, numbers-of, head-of, checked, reads};
 
@@ -36,13 +36,13 @@ fn polynomial_at(file: &[u8], at: usize, k: usize, h: Head) -> Checked
             return Checked::Refused(x);
         }
     }
-    if words::wide(file[at + 4]) != k {
+    if crate::bytes::wide(file[at + 4]) != k {
         return Checked::Refused(Refused {
             why: Refusal::NotDue,
             at,
         });
     }
-    let t = (words::two(file, at) - 1) / 7;
+    let t = (crate::bytes::two(file, at) - 1) / 7;
     terms_at(file, at + 5, t, h)
 }
 
@@ -75,7 +75,7 @@ fn end_at(file: &[u8], at: usize) -> Checked
 fn polynomials_at(file: &[u8], h: Head) -> Checked
     ensures { λ r. ⌜ r ≡ polynomials (layout h) (h .m) 1 12 (drop 12 (now (file .entry))) ⌝ }
 {
-    let m = words::wide(h.m);
+    let m = crate::bytes::wide(h.m);
     let mut k = 0;
     let mut o = 12;
     while k < m {
@@ -86,7 +86,7 @@ fn polynomials_at(file: &[u8], h: Head) -> Checked
                 return Checked::Refused(x);
             }
         }
-        o += 4 + words::two(file, o);
+        o += 4 + crate::bytes::two(file, o);
         k += 1;
     }
     end_at(file, o)
@@ -140,13 +140,13 @@ fn fill(file: &[u8], h: Head, out: &mut [i64])
     requires { ⌜ (polynomials (layout h) (h .m) 1 12 (drop 12 (now file)) ≡ Checked.Good) × (places h ≤ length (now out)) ⌝ }
     ensures { λ r. ⌜ now (out .exit) ≡ numbers-of (layout h) (h .m) (drop 12 (now (file .entry))) ++ drop (places h) (now (out .entry)) ⌝ }
 {
-    let m = words::wide(h.m);
+    let m = crate::bytes::wide(h.m);
     let n = h.size();
     let mut k = 0;
     let mut o = 12;
     let mut base = 0;
     while k < m {
-        let len = words::two(file, o);
+        let len = crate::bytes::two(file, o);
         fill_places(file, o + 5, (len - 1) / 7, h, out, base);
         o += 4 + len;
         base += n;

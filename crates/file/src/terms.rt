@@ -1,8 +1,8 @@
 // The terms of a polynomial: their order, and the coefficients that they say. Of a head they use only its layout.
-use heads::head::Checked;
-use heads::head::Head;
-use heads::refusal::Refusal;
-use heads::refusal::Refused;
+use system::head::Checked;
+use system::head::Head;
+use system::refusal::Refusal;
+use system::refusal::Refused;
 ghost use mathlib.Core.Path.{_≡_};
 ghost use mathlib.Core.Bool.{cond, _&&_};
 ghost use mathlib.Core.List.{_++_};
@@ -43,7 +43,7 @@ fn value_at(file: &[u8], at: usize) -> i64
     requires { ⌜ at + 6 < length (now file) ⌝ }
     ensures { λ r. ⌜ r ≡ value-of (drop at (now (file .entry))) ⌝ }
 {
-    words::four(file, at + 3)
+    crate::bytes::four(file, at + 3)
 }
 
 pub fn in_range(x: i64) -> bool

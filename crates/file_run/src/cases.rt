@@ -10,7 +10,7 @@ use crate::sweep::put_all;
 use crate::sweep::refused;
 use crate::sweep::tried;
 use file::reading::Answer;
-use heads::head::Head;
+use system::head::Head;
 use writing::Written;
 
 fn set(to: &mut [u8], p: usize, v: u8) {
@@ -53,12 +53,12 @@ fn read_entries(f: &[u8], t: &[u8]) {
     while i < n {
         read_case(
             f,
-            words::wide(entry(t, 6 * i)),
-            words::wide(entry(t, 6 * i + 1)),
+            file::bytes::wide(entry(t, 6 * i)),
+            file::bytes::wide(entry(t, 6 * i + 1)),
             entry(t, 6 * i + 2),
-            words::wide(entry(t, 6 * i + 3)),
+            file::bytes::wide(entry(t, 6 * i + 3)),
             entry(t, 6 * i + 4),
-            words::wide(entry(t, 6 * i + 5)),
+            file::bytes::wide(entry(t, 6 * i + 5)),
         );
         i += 1;
     }

@@ -39,7 +39,7 @@ pub fn mixed_bytes(sum: usize, bs: &[u8]) -> usize {
     let mut s = sum;
     let mut i = 0;
     while i < bs.len() {
-        s = mixed(s, words::wide(bs[i]));
+        s = mixed(s, file::bytes::wide(bs[i]));
         i += 1;
     }
     s

@@ -9,7 +9,7 @@ use crate::show::same_bytes;
 use crate::show::word;
 use file::parser::Step;
 use file::reading::Answer;
-use heads::refusal::Refused;
+use system::refusal::Refused;
 use writing::Written;
 
 // 0 and the length of a file that reads and is the same when it is written again, 99 where it is another, else the refusal's number and offset.

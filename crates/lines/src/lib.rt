@@ -1,5 +1,7 @@
 // Work on lines of numbers in a flat store, in place: the cut of lines in two halves, and the steps that make the starting numbers.
 // A line's entries stand inner places apart. Nothing here knows of directions, boxes or polynomials.
+pub mod sides;
+
 ghost use Prim.Native.Nat.{_+_, _*_, _<_, _≤_, _^_};
 ghost use lib.IntN.{pos, _+ℤ_, _*ℤ_};
 ghost use lib.ListN.{length};

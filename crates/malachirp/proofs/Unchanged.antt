@@ -7,23 +7,23 @@ use native.Mathlib.Omega.{arith}
 use lib.IntN.{ℤ}
 use lib.ListN.{length}
 use lib.Seq.{set-out}
-use Rattle.heads.specs.declared.refusal.Refused.{Refused}
-use Rattle.heads.specs.declared.head.Head.{Head}
-use Rattle.heads.specs.declared.head.Checked.{Checked}
-use Rattle.heads.specs.declared.head.Checked.the-variants.{Good, Refused as Stopped-by}
+use Rattle.system.specs.declared.refusal.Refused.{Refused}
+use Rattle.system.specs.declared.head.Head.{Head}
+use Rattle.system.specs.declared.head.Checked.{Checked}
+use Rattle.system.specs.declared.head.Checked.the-variants.{Good, Refused as Stopped-by}
 use Rattle.waiting.specs.declared.state.State.{State}
-use Rattle.steps.specs.declared.step.Due.{Due}
-use Rattle.steps.specs.declared.step.Due.the-variants.{Stop, Visit}
+use Rattle.waiting.specs.declared.step.Due.{Due}
+use Rattle.waiting.specs.declared.step.Due.the-variants.{Stop, Visit}
 use Rattle.waiting.specs.States.{judged}
-use Rattle.steps.specs.Steps.{begun, due, next, nothing-kept}
-use Rattle.steps.specs.Runs.{Way, went}
-use Rattle.records.specs.declared.runs.Answer as Of-run
-use Rattle.records.specs.declared.visits.Answer as Of-visit
-use Rattle.records.specs.declared.visits.Answer.the-variants.{Saw, Stopped, Refused as Stopped-at}
-use Rattle.records.specs.Runs.{run-of}
-use Rattle.records.specs.Visits.{visit-of}
-use Rattle.plain.specs.Lists.{listed, relisted}
-use Rattle.plain.proofs.Lists.{same-listed}
+use Rattle.waiting.specs.Steps.{begun, due, next, nothing-kept}
+use Rattle.waiting.specs.Runs.{Way, went}
+use Rattle.runs.specs.declared.runs.Answer as Of-run
+use Rattle.runs.specs.declared.visits.Answer as Of-visit
+use Rattle.runs.specs.declared.visits.Answer.the-variants.{Saw, Stopped, Refused as Stopped-at}
+use Rattle.runs.specs.Runs.{run-of}
+use Rattle.runs.specs.Visits.{visit-of}
+use Rattle.runs.specs.Lists.{listed, relisted}
+use Rattle.runs.proofs.Lists.{same-listed}
 
 -- the store and the list at a way's end are those that were there
 abbrev pub Same : List ℕ → List ℤ → Way → Type 0

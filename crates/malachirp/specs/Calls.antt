@@ -5,10 +5,10 @@ use Prim.Native.Nat.{ℕ}
 use mathlib.Core.List.{List, [], _∷_}
 use lib.IntN.{ℤ}
 use lib.Ieee.{Float}
-use Rattle.heads.specs.declared.head.Head.{Head}
-use Rattle.heads.specs.declared.head.Checked.{Checked}
+use Rattle.system.specs.declared.head.Head.{Head}
+use Rattle.system.specs.declared.head.Checked.{Checked}
 use Rattle.boxes.specs.declared.middle.Placed.{Placed}
-use Rattle.heads.specs.Heads.{places, checked}
+use Rattle.system.specs.Heads.{places, checked}
 use Rattle.boxes.specs.Middles.{placed}
 use Rattle.boxes.specs.Visits.{visit-numbers, word-number}
 use Rattle.waiting.specs.declared.start.Started.{Started}
@@ -18,13 +18,13 @@ use Rattle.file.specs.declared.reading.Answer.{Answer}
 use Rattle.file.specs.Reading.{reads}
 use Rattle.writing.specs.declared.Written.{Written}
 use Rattle.writing.specs.Writing.{writes}
-use Rattle.records.specs.declared.runs.Answer as Of-run
-use Rattle.records.specs.declared.visits.Answer as Of-visit
-use Rattle.records.specs.Runs.{Run, run-of}
-use Rattle.records.specs.Visits.{One, visit-of}
-use Rattle.records.specs.Tables.{box-of}
-use Rattle.plain.specs.Lists.{first, listed, relisted}
-use Rattle.codes.specs.Codes.{head-from, head-numbers, state-from, state-numbers, middle-numbers, Left, done, refused}
+use Rattle.runs.specs.declared.runs.Answer as Of-run
+use Rattle.runs.specs.declared.visits.Answer as Of-visit
+use Rattle.runs.specs.Runs.{Run, run-of}
+use Rattle.runs.specs.Visits.{One, visit-of}
+use Rattle.runs.specs.Tables.{box-of}
+use Rattle.runs.specs.Lists.{first, listed, relisted}
+use Rattle.malachirp.specs.Codes.{head-from, head-numbers, state-from, state-numbers, middle-numbers, Left, done, refused}
 
 -- ---- the coefficients' places and the waiting store's, for a head within limits
 abbrev pub sizes-left : Head → List ℕ → Checked → Left (List ℕ)

@@ -1,13 +1,13 @@
 // The system file: reading it into lent places, and writing it into lent bytes.
-use codes::head_from;
-use codes::head_numbers;
-use codes::refuse;
+use crate::codes::head_from;
+use crate::codes::head_numbers;
+use crate::codes::refuse;
 use file::reading::Answer;
 use file::reading::read;
 use writing::Written;
 use writing::write;
 ghost use mathlib.Core.Path.{_≡_};
-ghost use Rattle.codes.specs.Codes.{left};
+ghost use Rattle.malachirp.specs.Codes.{left};
 ghost use Rattle.malachirp.specs.Calls.{read-call, write-call};
 
 #[no_mangle]

@@ -1,12 +1,12 @@
 // The start of a run, and how long the places are that a system needs.
-use codes::head_from;
-use codes::refuse;
-use codes::state_numbers;
-use heads::head::Checked;
+use crate::codes::head_from;
+use crate::codes::refuse;
+use crate::codes::state_numbers;
+use system::head::Checked;
 use waiting::start::Started;
 use waiting::start::start;
 ghost use mathlib.Core.Path.{_≡_};
-ghost use Rattle.codes.specs.Codes.{left};
+ghost use Rattle.malachirp.specs.Codes.{left};
 ghost use Rattle.malachirp.specs.Calls.{sizes-call, start-call};
 
 // The coefficients' places, m × S, and the waiting store's, (D + 1) × (6 + m × S).

@@ -1,9 +1,9 @@
 // A kept box for the table builder: its middles and half widths as doubles.
+use crate::codes::middles::place;
+use crate::codes::refuse;
 use boxes::middle::Placed;
-use codes::middles::place;
-use codes::refuse;
 ghost use mathlib.Core.Path.{_≡_};
-ghost use Rattle.codes.specs.Codes.{left};
+ghost use Rattle.malachirp.specs.Codes.{left};
 ghost use Rattle.malachirp.specs.Calls.{middles-call};
 
 #[no_mangle]

@@ -1,13 +1,13 @@
 // One visit, with what became of the box.
-use codes::head_from;
-use codes::refuse;
-use codes::state_from;
-use codes::state_numbers;
-use codes::visit_numbers;
-use plain::visits::visit;
-use records::visits::Answer;
+use crate::codes::head_from;
+use crate::codes::refuse;
+use crate::codes::state_from;
+use crate::codes::state_numbers;
+use crate::codes::visit_numbers;
+use runs::plain::visits::visit;
+use runs::visits::Answer;
 ghost use mathlib.Core.Path.{_≡_};
-ghost use Rattle.codes.specs.Codes.{left};
+ghost use Rattle.malachirp.specs.Codes.{left};
 ghost use Rattle.malachirp.specs.Calls.{visit-call};
 
 #[no_mangle]

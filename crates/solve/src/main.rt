@@ -1,5 +1,5 @@
 // The desk program: reads a system file from standard input and writes what is found to standard output.
-use records::runs::Answer;
+use runs::runs::Answer;
 ghost use mathlib.Core.Path.{_≡_};
 ghost use mathlib.Core.Bool.{true};
 ghost use Rattle.desk.specs.Report.{few-kept};

@@ -20,17 +20,17 @@ use Rattle.bernstein.proofs.Nested.{replaced}
 use Rattle.bernstein.proofs.Places.{place-below}
 use Rattle.bernstein.proofs.Sizes.{cut-fits}
 use Rattle.bernstein.proofs.Starts.{start-fits}
-use Rattle.heads.specs.declared.head.Head.{Head}
+use Rattle.system.specs.declared.head.Head.{Head}
 use Rattle.boxes.specs.declared.half.Direction.{Direction}
 use Rattle.boxes.specs.declared.visit.Outcome.{Outcome}
-use Rattle.heads.specs.Heads.{degrees, depths, places, Limits}
+use Rattle.system.specs.Heads.{degrees, depths, places, Limits}
 use Rattle.boxes.specs.Boxes.{direction}
-use Rattle.patch.specs.Slots.{at, box-in, numbers, polynomial, half-slot, unit-slot}
-use Rattle.patch.specs.Rules.{every, within, limit, can-cut, looked}
-use Rattle.patch.proofs.Builds.{half-slot-length, unit-slot-length, in-turn-filled}
-use Rattle.patch.proofs.Decided.{every-at}
-use Rattle.patch.proofs.Chosen.{CutIn, cut-in}
-use Rattle.patch.proofs.Exactness.{unit-exact, half-exact}
+use Rattle.slots.specs.Slots.{at, box-in, numbers, polynomial, half-slot, unit-slot}
+use Rattle.slots.specs.Rules.{every, within, limit, can-cut, looked}
+use Rattle.slots.proofs.Builds.{half-slot-length, unit-slot-length, in-turn-filled}
+use Rattle.slots.proofs.Decided.{every-at}
+use Rattle.slots.proofs.Chosen.{CutIn, cut-in}
+use Rattle.slots.proofs.Exactness.{unit-exact, half-exact}
 use Rattle.waiting.specs.Fits.{Fit}
 
 -- ---- numbers within a bound, polynomial by polynomial

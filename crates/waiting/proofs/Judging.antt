@@ -11,17 +11,17 @@ use lib.IntN.{ℤ, pos, natAbs}
 use lib.ListN.{length}
 use lib.Signed.{leZ, _≤ℤ_}
 use Rattle.bernstein.specs.Three.{_!_}
-use Rattle.heads.specs.declared.refusal.Refusal.{Refusal}
-use Rattle.heads.specs.declared.head.Head.{Head}
-use Rattle.heads.specs.declared.head.Checked.{Checked}
-use Rattle.heads.specs.declared.head.Checked.the-variants.{Good, Refused}
-use Rattle.heads.specs.Heads.{depths, depth, width, Limits, checked}
-use Rattle.heads.proofs.Says.{Says, le-says, lt-says, and-says, each-says, says-as}
-use Rattle.heads.proofs.Heads.{head-says}
-use Rattle.patch.specs.Slots.{at, column, numbers, SpanFits}
-use Rattle.patch.specs.Rules.{every, within}
+use Rattle.system.specs.declared.refusal.Refusal.{Refusal}
+use Rattle.system.specs.declared.head.Head.{Head}
+use Rattle.system.specs.declared.head.Checked.{Checked}
+use Rattle.system.specs.declared.head.Checked.the-variants.{Good, Refused}
+use Rattle.system.specs.Heads.{depths, depth, width, Limits, checked}
+use Rattle.system.proofs.Says.{Says, le-says, lt-says, and-says, each-says, says-as}
+use Rattle.system.proofs.Heads.{head-says}
+use Rattle.slots.specs.Slots.{at, column, numbers, SpanFits}
+use Rattle.slots.specs.Rules.{every, within}
 use Rattle.search.specs.Lent.{slot}
-use Rattle.heads.specs.Chain.{test, _then_}
+use Rattle.system.specs.Chain.{test, _then_}
 use Rattle.waiting.specs.States.{most, cuts, needed, span-ok, slot-ok, slots-ok, counts-ok, judged, SlotAllowed, Judged-allowed}
 use Rattle.waiting.specs.declared.state.State.{State}
 

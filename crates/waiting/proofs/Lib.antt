@@ -5,3 +5,7 @@ pub mod Judging
 pub mod Standing
 pub mod Starting
 pub mod Slotting
+pub mod Turning
+pub mod Driving
+pub mod Keeping
+pub mod Becoming

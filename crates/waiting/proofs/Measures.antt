@@ -7,15 +7,15 @@ use lib.IntN.{ℤ}
 use Rattle.whole.specs.Half.{Half, lower, upper}
 use Rattle.bernstein.specs.Three
 use Rattle.bernstein.specs.Three.{first, second, third, _!_}
-use Rattle.heads.specs.declared.head.Head.{Head}
+use Rattle.system.specs.declared.head.Head.{Head}
 use Rattle.boxes.specs.declared.half.Direction.{Direction}
 use Rattle.boxes.specs.declared.visit.Sign.{Sign}
 use Rattle.boxes.specs.declared.visit.Outcome.{Outcome}
-use Rattle.heads.specs.Heads.{depths}
+use Rattle.system.specs.Heads.{depths}
 use Rattle.boxes.specs.Boxes.{direction}
-use Rattle.patch.specs.Slots.{box-in, half-slot}
-use Rattle.patch.specs.Rules.{looked}
-use Rattle.patch.proofs.Chosen.{cut-in}
+use Rattle.slots.specs.Slots.{box-in, half-slot}
+use Rattle.slots.specs.Rules.{looked}
+use Rattle.slots.proofs.Chosen.{cut-in}
 use Rattle.search.specs.Search.{Look, is-dropped, is-kept, is-cut}
 use Rattle.search.specs.Counts.{Measured}
 use Rattle.search.specs.Lent.{slots}

@@ -17,9 +17,9 @@ use borrow.Rule.Slice.PartMut.{putMid}
 use lib.ListN.{length, take, drop, length-append, length-take, length-drop}
 use lib.Seq.{take-all, drop-drop, take-at, drop-at, length-take-le, take-take}
 use Rattle.bernstein.specs.Three.{Direction}
-use Rattle.heads.specs.declared.head.Head.{Head}
-use Rattle.heads.specs.Heads.{depth, width}
-use Rattle.patch.specs.Slots.{at, column, SpanFits, SlotFits}
+use Rattle.system.specs.declared.head.Head.{Head}
+use Rattle.system.specs.Heads.{depth, width}
+use Rattle.slots.specs.Slots.{at, column, SpanFits, SlotFits}
 use Rattle.search.specs.Lent.{put, slot}
 use Rattle.waiting.specs.States.{needed}
 

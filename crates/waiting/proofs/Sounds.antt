@@ -12,14 +12,14 @@ use Rattle.whole.specs.Half.{Half, lower, upper}
 use Rattle.bernstein.specs.Numbers.{half-box}
 use Rattle.bernstein.proofs.Boxes.{no-zero}
 use Rattle.bernstein.proofs.Covers.{halves-cover, halves-inside}
-use Rattle.heads.specs.declared.head.Head.{Head}
+use Rattle.system.specs.declared.head.Head.{Head}
 use Rattle.boxes.specs.declared.half.Direction.{Direction}
 use Rattle.boxes.specs.declared.visit.Sign.{Sign}
-use Rattle.heads.specs.Heads.{places, Limits}
+use Rattle.system.specs.Heads.{places, Limits}
 use Rattle.boxes.specs.Boxes.{direction}
-use Rattle.patch.specs.Slots.{box-in, numbers, half-slot}
-use Rattle.patch.specs.Rules.{looked}
-use Rattle.patch.proofs.Decided.{DroppedBy, dropped-by, sign}
+use Rattle.slots.specs.Slots.{box-in, numbers, half-slot}
+use Rattle.slots.specs.Rules.{looked}
+use Rattle.slots.proofs.Decided.{DroppedBy, dropped-by, sign}
 use Rattle.search.specs.Search.{is-dropped}
 use Rattle.search.specs.Claims.{Passes, Sound, Nests}
 use Rattle.search.specs.Lent.{slots}

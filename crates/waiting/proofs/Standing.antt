@@ -15,16 +15,16 @@ use Rattle.bernstein.specs.Numbers.{Patch, Box, half-box, half-patch, formula, 
 use Rattle.bernstein.specs.Places.{size, index}
 use Rattle.bernstein.proofs.Indices.{index-upto}
 use Rattle.bernstein.proofs.Starts.{start-fits}
-use Rattle.heads.specs.declared.head.Head.{Head}
+use Rattle.system.specs.declared.head.Head.{Head}
 use Rattle.boxes.specs.declared.half.Direction.{Direction}
 use Rattle.boxes.specs.declared.visit.Outcome.{Outcome}
-use Rattle.heads.specs.Heads.{degrees, depths, depth, places, width, Limits}
+use Rattle.system.specs.Heads.{degrees, depths, depth, places, width, Limits}
 use Rattle.boxes.specs.Boxes.{direction}
-use Rattle.heads.proofs.Heads.{size-low}
-use Rattle.patch.specs.Slots.{at, column, box-in, box-numbers, numbers, in-turn, polynomial, half-slot, unit-slot, SpanFits}
-use Rattle.patch.specs.Rules.{looked}
-use Rattle.patch.proofs.Builds.{build-at, in-turn-length}
-use Rattle.patch.proofs.Chosen.{CutIn, cut-in}
+use Rattle.system.proofs.Heads.{size-low}
+use Rattle.slots.specs.Slots.{at, column, box-in, box-numbers, numbers, in-turn, polynomial, half-slot, unit-slot, SpanFits}
+use Rattle.slots.specs.Rules.{looked}
+use Rattle.slots.proofs.Builds.{build-at, in-turn-length}
+use Rattle.slots.proofs.Chosen.{CutIn, cut-in}
 use Rattle.search.specs.Search.{is-dropped, is-kept, is-cut, States, become}
 use Rattle.search.specs.Lent.{slot, stack, slots, Stacked}
 use Rattle.search.proofs.Search.{Closed}

@@ -9,13 +9,13 @@ use lib.IntN.{ℤ, pos, natAbs}
 use lib.ListN.{length, take, drop, replicate, length-replicate, length-append, length-take, length-drop}
 use lib.Seq.{take-at, drop-at, drop-drop, getD-take, length-take-le}
 use Rattle.bernstein.specs.Numbers.{Box}
-use Rattle.heads.specs.declared.refusal.Refusal.{Refusal}
-use Rattle.heads.specs.declared.head.Head.{Head}
-use Rattle.heads.specs.declared.head.Checked.the-variants.{Good}
-use Rattle.heads.specs.Heads.{places, depth, width, Limits}
-use Rattle.patch.specs.Slots.{at, unit-slot}
-use Rattle.patch.specs.Rules.{every, within}
-use Rattle.patch.proofs.Builds.{unit-slot-length}
+use Rattle.system.specs.declared.refusal.Refusal.{Refusal}
+use Rattle.system.specs.declared.head.Head.{Head}
+use Rattle.system.specs.declared.head.Checked.the-variants.{Good}
+use Rattle.system.specs.Heads.{places, depth, width, Limits}
+use Rattle.slots.specs.Slots.{at, unit-slot}
+use Rattle.slots.specs.Rules.{every, within}
+use Rattle.slots.proofs.Builds.{unit-slot-length}
 use Rattle.search.specs.Search.{Entry, start}
 use Rattle.search.specs.Lent.{slot, stack, slots, held}
 use Rattle.waiting.specs.Cells.{cells}

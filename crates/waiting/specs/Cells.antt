@@ -3,15 +3,15 @@ use mathlib.Core.List.{List}
 use Prim.Native.Nat.{ℕ, _+_, _-_}
 use lib.IntN.{ℤ, pos}
 use Rattle.bernstein.specs.Numbers.{Box}
-use Rattle.heads.specs.declared.head.Head.{Head}
+use Rattle.system.specs.declared.head.Head.{Head}
 use Rattle.boxes.specs.declared.half.Direction.{Direction}
 use Rattle.boxes.specs.declared.visit.Sign.{Sign}
 use Rattle.boxes.specs.declared.visit.Outcome.{Outcome}
-use Rattle.heads.specs.Heads.{depths, width}
+use Rattle.system.specs.Heads.{depths, width}
 use Rattle.boxes.specs.Boxes.{direction}
-use Rattle.patch.specs.Slots.{box-in, half-slot}
-use Rattle.patch.specs.Rules.{looked}
-use Rattle.patch.proofs.Builds.{half-slot-length}
+use Rattle.slots.specs.Slots.{box-in, half-slot}
+use Rattle.slots.specs.Rules.{looked}
+use Rattle.slots.proofs.Builds.{half-slot-length}
 use Rattle.search.specs.Search.{Look, is-dropped, is-kept, is-cut}
 use Rattle.search.specs.Lent.{Slots}
 

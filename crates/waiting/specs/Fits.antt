@@ -9,9 +9,9 @@ use lib.Signed.{_<ℤ_}
 use Rattle.bernstein.specs.Three.{Direction, Three, _!_}
 use Rattle.bernstein.specs.Numbers.{Box, Stored}
 use Rattle.bernstein.specs.Points.{Within, value}
-use Rattle.heads.specs.declared.head.Head.{Head}
-use Rattle.heads.specs.Heads.{degrees, depths, width}
-use Rattle.patch.specs.Slots.{box-in, numbers, polynomial, ExactSlot}
+use Rattle.system.specs.declared.head.Head.{Head}
+use Rattle.system.specs.Heads.{degrees, depths, width}
+use Rattle.slots.specs.Slots.{box-in, numbers, polynomial, ExactSlot}
 
 -- of a slot, in a run of the system with the head h and the coefficients cs
 pub record Fit (h : Head) (cs l : List ℤ) : Type 0 where

@@ -6,13 +6,13 @@ use Prim.Native.Nat.{ℕ, _*_}
 use lib.Dec.{leb}
 use lib.IntN.{ℤ, pos}
 use lib.ListN.{length, take, drop, replicate}
-use Rattle.heads.specs.declared.refusal.Refusal.{Refusal}
-use Rattle.heads.specs.declared.head.Head.{Head}
-use Rattle.heads.specs.declared.head.Checked.{Checked}
-use Rattle.heads.specs.Heads.{places, depth, width, checked}
-use Rattle.patch.specs.Slots.{unit-slot}
-use Rattle.patch.specs.Rules.{every, within}
-use Rattle.heads.specs.Chain.{test, _then_}
+use Rattle.system.specs.declared.refusal.Refusal.{Refusal}
+use Rattle.system.specs.declared.head.Head.{Head}
+use Rattle.system.specs.declared.head.Checked.{Checked}
+use Rattle.system.specs.Heads.{places, depth, width, checked}
+use Rattle.slots.specs.Slots.{unit-slot}
+use Rattle.slots.specs.Rules.{every, within}
+use Rattle.system.specs.Chain.{test, _then_}
 use Rattle.waiting.specs.States.{needed, Allowed}
 use Rattle.waiting.specs.declared.state.State.{State}
 use Rattle.waiting.specs.declared.start.Started.{Started}

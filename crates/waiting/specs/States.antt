@@ -11,18 +11,18 @@ use lib.ListN.{length}
 use lib.Signed.{leZ}
 use Rattle.bernstein.specs.Three.{Direction, _!_}
 use Rattle.bernstein.specs.Numbers.{Box}
-use Rattle.heads.specs.declared.refusal.Refusal.{Refusal}
+use Rattle.system.specs.declared.refusal.Refusal.{Refusal}
 use Rattle.boxes.specs.declared.half.Direction as Half
 use Rattle.boxes.specs.Boxes.{direction}
-use Rattle.heads.specs.declared.head.Head.{Head}
-use Rattle.heads.specs.declared.head.Checked.{Checked}
-use Rattle.heads.specs.Directions.{each}
-use Rattle.heads.specs.Heads.{depths, depth, width, Limits, checked}
-use Rattle.patch.specs.Slots.{at, column, box-in, numbers, SpanFits, SlotFits}
-use Rattle.patch.specs.Rules.{every, within, can-cut}
+use Rattle.system.specs.declared.head.Head.{Head}
+use Rattle.system.specs.declared.head.Checked.{Checked}
+use Rattle.system.specs.Directions.{each}
+use Rattle.system.specs.Heads.{depths, depth, width, Limits, checked}
+use Rattle.slots.specs.Slots.{at, column, box-in, numbers, SpanFits, SlotFits}
+use Rattle.slots.specs.Rules.{every, within, can-cut}
 use Rattle.search.specs.Search.{Entry}
 use Rattle.search.specs.Lent.{slot, Lent, memory}
-use Rattle.heads.specs.Chain.{test, _then_}
+use Rattle.system.specs.Chain.{test, _then_}
 use Rattle.waiting.specs.declared.state.State.{State}
 
 -- M

@@ -1,19 +1,19 @@
 // The start of a run: the unit box in slot 0, zeros in the other D slots, and nothing beyond.
-use crate::slots::long_enough;
 use crate::state::State;
 use crate::state::refuse;
-use heads::head::Checked;
-use heads::head::Head;
-use heads::refusal::Refusal;
-use heads::refusal::Refused;
-use patch::numbers::clear;
-use patch::numbers::in_range;
+use crate::store::long_enough;
+use slots::numbers::clear;
+use slots::numbers::in_range;
+use system::head::Checked;
+use system::head::Head;
+use system::refusal::Refusal;
+use system::refusal::Refused;
 ghost use mathlib.Core.Path.{_≡_};
 ghost use mathlib.Core.Bool.{true};
 ghost use Prim.Native.Nat.{_≤_};
 ghost use lib.ListN.{length, take};
-ghost use Rattle.heads.specs.Heads.{places, Limits};
-ghost use Rattle.patch.specs.Rules.{every, within};
+ghost use Rattle.system.specs.Heads.{places, Limits};
+ghost use Rattle.slots.specs.Rules.{every, within};
 ghost use Rattle.waiting.specs.States.{needed};
 ghost use Rattle.waiting.specs.Starts.{start-check, fresh-state, fresh-store, start-answer, start-store};
 
@@ -48,7 +48,7 @@ fn fill(h: Head, coefficients: &[i64], store: &mut [i64])
 {
     let w = h.width();
     let stop = w + h.depth() * w;
-    filling::starts::start(&mut store[0..w], coefficients, h);
+    slots::starts::start(&mut store[0..w], coefficients, h);
     clear(&mut store[w..stop]);
 }
 

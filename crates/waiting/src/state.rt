@@ -1,12 +1,12 @@
 // The state of a run, and its check against the head, the waiting store and the length of the list.
-use crate::slots::long_enough;
-use crate::slots::slots_ok;
-use heads::head::Checked;
-use heads::head::Head;
-use heads::refusal::Refusal;
+use crate::store::long_enough;
+use crate::store::slots_ok;
+use system::head::Checked;
+use system::head::Head;
+use system::refusal::Refusal;
 ghost use mathlib.Core.Path.{_≡_};
 ghost use Rattle.waiting.specs.States.{counts-ok, judged};
-ghost use Rattle.heads.specs.Chain.{refused};
+ghost use Rattle.system.specs.Chain.{refused};
 
 // The four counts.
 pub struct State {

@@ -3,8 +3,8 @@
 mod show;
 mod through;
 
-use heads::head::Head;
 use show::word;
+use system::head::Head;
 use through::begun;
 use through::run;
 use through::visits;

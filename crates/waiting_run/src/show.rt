@@ -2,9 +2,9 @@
 use boxes::visit::Outcome;
 use boxes::visit::Visit;
 use boxes::visit::Word;
-use heads::refusal::Refused;
 use libc::STDOUT_FILENO;
-use steps::cursor::Kept;
+use system::refusal::Refused;
+use waiting::cursor::Kept;
 use waiting::state::State;
 
 pub fn word(w: &[u8]) {

@@ -1,18 +1,18 @@
 // A driver over `step`: each record is printed where a list would take it.
 use crate::show;
-use heads::head::Checked;
-use heads::head::Head;
-use steps::cursor::Cursor;
-use steps::cursor::begin;
-use steps::step::step;
-use steps::step::step_seen;
+use system::head::Checked;
+use system::head::Head;
+use waiting::cursor::Cursor;
+use waiting::cursor::begin;
 use waiting::start::Started;
 use waiting::state::State;
 use waiting::state::check;
+use waiting::step::step;
+use waiting::step::step_seen;
 ghost use mathlib.Core.Path.{_≡_};
-ghost use Rattle.heads.specs.declared.head.Checked.the-variants.{Good};
+ghost use Rattle.system.specs.declared.head.Checked.the-variants.{Good};
 ghost use Rattle.waiting.specs.States.{judged};
-ghost use Rattle.steps.specs.Steps.{Ready};
+ghost use Rattle.waiting.specs.Steps.{Ready};
 
 // A start; nothing waits where it is refused.
 pub fn begun(h: Head, coefficients: &[i64], store: &mut [i64]) -> State {

@@ -7,16 +7,16 @@ use native.Mathlib.Omega.{arith}
 use borrow.Author.Tests.{le-leb, lt-leb}
 use lib.IntN.{ℤ}
 use lib.ListN.{length, take, drop}
-use Rattle.words.specs.Bytes.{over}
-use Rattle.words.proofs.Putting.{over-over}
-use Rattle.heads.specs.Heads as Heads
-use Rattle.heads.specs.Heads.{places, head-ok, Limits}
-use Rattle.heads.specs.declared.refusal.Refusal.the-variants.{OutOfLimits, BadCoefficient, TooShort}
-use Rattle.heads.specs.declared.refusal.Refused as refusal
-use Rattle.heads.specs.declared.head.Head.{Head}
-use Rattle.heads.specs.declared.head.Checked.{Checked}
-use Rattle.heads.specs.declared.head.Checked.the-variants.{Good, Refused}
-use Rattle.heads.proofs.Heads.{head-limits}
+use Rattle.file.specs.Bytes.{over}
+use Rattle.file.proofs.Putting.{over-over}
+use Rattle.system.specs.Heads as Heads
+use Rattle.system.specs.Heads.{places, head-ok, Limits}
+use Rattle.system.specs.declared.refusal.Refusal.the-variants.{OutOfLimits, BadCoefficient, TooShort}
+use Rattle.system.specs.declared.refusal.Refused as refusal
+use Rattle.system.specs.declared.head.Head.{Head}
+use Rattle.system.specs.declared.head.Checked.{Checked}
+use Rattle.system.specs.declared.head.Checked.the-variants.{Good, Refused}
+use Rattle.system.proofs.Heads.{head-limits}
 use Rattle.file.specs.Layout.{layout}
 use Rattle.file.proofs.Tests.{passed}
 use Rattle.writing.specs.Writing.{record-bytes, head-body, polynomials-bytes, file-bytes, all-in-range, writable, writes}

@@ -10,13 +10,13 @@ use lib.Dec.{leb}
 use lib.IntN.{ℤ}
 use lib.ListN.{length, take, drop, length-append, length-drop, take-append-drop}
 use lib.Seq.{take-at, length-take-le, take-append-le, drop-append-le}
-use Rattle.words.specs.Bytes.{Bytes}
-use Rattle.heads.specs.Heads.{places, head-ok}
-use Rattle.heads.specs.declared.refusal.Refusal.the-variants.{OutOfLimits, BadCoefficient, TooShort}
-use Rattle.heads.specs.declared.head.Head.{Head}
-use Rattle.heads.specs.declared.head.Checked.{Checked}
-use Rattle.heads.specs.declared.head.Checked.the-variants.{Good, Refused}
-use Rattle.heads.specs.Chain.{test, _then_}
+use Rattle.file.specs.Bytes.{Bytes}
+use Rattle.system.specs.Heads.{places, head-ok}
+use Rattle.system.specs.declared.refusal.Refusal.the-variants.{OutOfLimits, BadCoefficient, TooShort}
+use Rattle.system.specs.declared.head.Head.{Head}
+use Rattle.system.specs.declared.head.Checked.{Checked}
+use Rattle.system.specs.declared.head.Checked.the-variants.{Good, Refused}
+use Rattle.system.specs.Chain.{test, _then_}
 use Rattle.file.specs.Layout.{Layout, layout}
 use Rattle.file.specs.Reading.{head-of, checked, numbers, filled, reads}
 use Rattle.file.specs.declared.reading.Answer.{Answer}

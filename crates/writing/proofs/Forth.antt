@@ -7,9 +7,9 @@ use native.Mathlib.Omega.{arith}
 use borrow.Author.Tests.{eqb-true}
 use lib.IntN.{ℤ, pos, negsuc}
 use lib.ListN.{length}
-use Rattle.words.specs.Bytes.{bytes32}
-use Rattle.words.proofs.Words.{value-back}
-use Rattle.heads.specs.declared.head.Checked.the-variants.{Good}
+use Rattle.file.specs.Bytes.{bytes32}
+use Rattle.file.proofs.Words.{value-back}
+use Rattle.system.specs.declared.head.Checked.the-variants.{Good}
 use Rattle.file.specs.Layout.{Layout}
 use Rattle.file.specs.Terms.{in-range, is-zero, terms, coefficients}
 use Rattle.file.proofs.Tests.{both}

@@ -8,10 +8,10 @@ use native.Mathlib.Nat.{suc-mul, zero-mul}
 use lib.IntN.{ℤ}
 use lib.ListN.{length, take, drop, length-append}
 use lib.Seq.{take-add, drop-drop}
-use Rattle.words.specs.Bytes.{bytes16, over}
-use Rattle.words.proofs.Putting.{over-over}
-use Rattle.heads.specs.Heads.{places}
-use Rattle.heads.specs.declared.head.Head.{Head}
+use Rattle.file.specs.Bytes.{bytes16, over}
+use Rattle.file.proofs.Putting.{over-over}
+use Rattle.system.specs.Heads.{places}
+use Rattle.system.specs.declared.head.Head.{Head}
 use Rattle.file.specs.Layout.{Layout, layout}
 use Rattle.writing.specs.Counts.{count}
 use Rattle.writing.specs.Writing.{record-bytes, terms-bytes, polynomial-bytes, polynomials-bytes, file-bytes, all-in-range}

@@ -10,8 +10,8 @@ use lib.IntN.{ℤ, pos, natAbs}
 use lib.ListN.{length, getD, take, drop}
 use lib.Seq.{drop-cons}
 use Rattle.whole.specs.Size.{Below}
-use Rattle.words.specs.Bytes.{bytes32, over}
-use Rattle.words.proofs.Putting.{over-none}
+use Rattle.file.specs.Bytes.{bytes32, over}
+use Rattle.file.proofs.Putting.{over-none}
 use Rattle.file.specs.Layout.{Layout}
 use Rattle.file.specs.Terms.{in-range, is-zero}
 use Rattle.file.proofs.Tests.{both}

@@ -9,11 +9,11 @@ use borrow.Author.Tests.{eq-eqb}
 use lib.IntN.{ℤ}
 use lib.ListN.{length, take, drop, length-append, length-drop, take-append-drop}
 use lib.Seq.{drop-at, length-take-le}
-use Rattle.words.proofs.Words.{word16-bytes}
-use Rattle.heads.specs.Heads.{places, head-ok}
-use Rattle.heads.specs.declared.refusal.Refusal.the-variants.{NotDue, OutOfLimits}
-use Rattle.heads.specs.declared.head.Head.{Head}
-use Rattle.heads.specs.declared.head.Checked.the-variants.{Good}
+use Rattle.file.proofs.Words.{word16-bytes}
+use Rattle.system.specs.Heads.{places, head-ok}
+use Rattle.system.specs.declared.refusal.Refusal.the-variants.{NotDue, OutOfLimits}
+use Rattle.system.specs.declared.head.Head.{Head}
+use Rattle.system.specs.declared.head.Checked.the-variants.{Good}
 use Rattle.file.specs.Layout.{Layout, layout}
 use Rattle.file.specs.Records.{length-of}
 use Rattle.file.specs.Terms.{terms, coefficients}

@@ -11,12 +11,12 @@ use lib.Dec.{leb}
 use lib.IntN.{ℤ, pos}
 use lib.ListN.{length, take, drop, length-append, length-drop, take-append-drop}
 use lib.Seq.{drop-at, take-at, take-add, take-all}
-use Rattle.words.specs.Bytes.{byte, Bytes, bytes32}
-use Rattle.words.proofs.Words.{word16-small, bytes32-back, bytes-drop, take4, take5, take7, take12}
-use Rattle.heads.specs.Heads.{places}
-use Rattle.heads.specs.declared.refusal.Refusal.the-variants.{ExtraBytes}
-use Rattle.heads.specs.declared.head.Checked.the-variants.{Good}
-use Rattle.heads.specs.Chain.{test}
+use Rattle.file.specs.Bytes.{byte, Bytes, bytes32}
+use Rattle.file.proofs.Words.{word16-small, bytes32-back, bytes-drop, take4, take5, take7, take12}
+use Rattle.system.specs.Heads.{places}
+use Rattle.system.specs.declared.refusal.Refusal.the-variants.{ExtraBytes}
+use Rattle.system.specs.declared.head.Checked.the-variants.{Good}
+use Rattle.system.specs.Chain.{test}
 use Rattle.file.specs.Layout.{Layout, layout}
 use Rattle.file.specs.Records.{length-of, due}
 use Rattle.file.specs.Terms.{exponents, place-of, value-of, terms, coefficients}

@@ -6,10 +6,10 @@ use mathlib.Core.List.{List, _++_}
 use Prim.Native.Nat.{ℕ, _≤_}
 use lib.IntN.{ℤ}
 use lib.ListN.{length, take, drop}
-use Rattle.words.specs.Bytes.{Bytes}
-use Rattle.heads.specs.Heads.{places, head-ok}
-use Rattle.heads.specs.declared.refusal.Refused.{Refused}
-use Rattle.heads.specs.declared.head.Head.{Head}
+use Rattle.file.specs.Bytes.{Bytes}
+use Rattle.system.specs.Heads.{places, head-ok}
+use Rattle.system.specs.declared.refusal.Refused.{Refused}
+use Rattle.system.specs.declared.head.Head.{Head}
 use Rattle.file.specs.Reading.{reads}
 use Rattle.file.specs.declared.reading.Answer.{Answer}
 use Rattle.writing.specs.Writing.{all-in-range, writes}

@@ -7,13 +7,13 @@ use lib.Dec.{leb}
 use lib.IntN.{ℤ}
 use lib.ListN.{length, take, drop}
 use Rattle.bernstein.specs.Numbers.{Index}
-use Rattle.words.specs.Bytes.{bytes16, bytes32}
-use Rattle.heads.specs.Heads.{places, head-ok}
-use Rattle.heads.specs.declared.refusal.Refusal.{Refusal}
-use Rattle.heads.specs.declared.head.Head.{Head}
-use Rattle.heads.specs.declared.head.Checked.{Checked}
-use Rattle.heads.specs.declared.head.Checked.the-variants.{Good, Refused}
-use Rattle.heads.specs.Chain.{test, _then_}
+use Rattle.file.specs.Bytes.{bytes16, bytes32}
+use Rattle.system.specs.Heads.{places, head-ok}
+use Rattle.system.specs.declared.refusal.Refusal.{Refusal}
+use Rattle.system.specs.declared.head.Head.{Head}
+use Rattle.system.specs.declared.head.Checked.{Checked}
+use Rattle.system.specs.declared.head.Checked.the-variants.{Good, Refused}
+use Rattle.system.specs.Chain.{test, _then_}
 use Rattle.file.specs.Layout.{Layout, layout}
 use Rattle.file.specs.Terms.{in-range, is-zero}
 use Rattle.writing.specs.declared.Written.{Written}

@@ -3,10 +3,10 @@ mod counts;
 mod pieces;
 mod polynomials;
 
-use heads::head::Checked;
-use heads::head::Head;
-use heads::refusal::Refusal;
-use heads::refusal::Refused;
+use system::head::Checked;
+use system::head::Head;
+use system::refusal::Refusal;
+use system::refusal::Refused;
 ghost use mathlib.Core.Path.{_≡_};
 ghost use Rattle.writing.specs.Writing.{writes};
 
@@ -40,7 +40,7 @@ pub fn write(h: Head, coefficients: &[i64], out: &mut [u8]) -> Written
             at: 0,
         });
     }
-    let len = 16 + 5 * words::wide(h.m) + 7 * counts::count_part(coefficients, 0, n);
+    let len = 16 + 5 * file::bytes::wide(h.m) + 7 * counts::count_part(coefficients, 0, n);
     if out.len() < len {
         return Written::Refused(Refused {
             why: Refusal::TooShort,

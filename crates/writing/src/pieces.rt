@@ -1,11 +1,11 @@
 // The smallest pieces of a file, put into the lent bytes.
-use heads::head::Head;
+use system::head::Head;
 ghost use mathlib.Core.Path.{_≡_};
 ghost use mathlib.Core.List.{[], _∷_, _++_};
 ghost use Prim.Native.Nat.{_+_, _≤_, _<_};
 ghost use lib.ListN.{length};
 ghost use Rattle.whole.specs.Size.{Below};
-ghost use Rattle.words.specs.Bytes.{bytes16, bytes32, over};
+ghost use Rattle.file.specs.Bytes.{bytes16, bytes32, over};
 ghost use Rattle.writing.specs.Writing.{record-bytes, head-body};
 
 pub fn put_byte(t: &mut [u8], at: usize, b: u8)
@@ -20,8 +20,8 @@ pub fn put_header(t: &mut [u8], at: usize, len: usize, kind: u8)
     requires { ⌜ (at + 4 ≤ length (now t)) × (len < 65536) ⌝ }
     ensures { λ r. ⌜ now (t .exit) ≡ over (now (t .entry)) at (bytes16 len ++ (kind ∷ 0 ∷ [])) ⌝ }
 {
-    t[at] = words::narrow(len % 256);
-    t[at + 1] = words::narrow(len / 256);
+    t[at] = file::bytes::narrow(len % 256);
+    t[at + 1] = file::bytes::narrow(len / 256);
     t[at + 2] = kind;
     t[at + 3] = 0;
 }
@@ -31,16 +31,16 @@ pub fn put_term(t: &mut [u8], at: usize, i1: u8, i2: u8, i3: u8, x: i64)
     requires { ⌜ (at + 7 ≤ length (now t)) × Below 2147483648 x ⌝ }
     ensures { λ r. ⌜ now (t .exit) ≡ over (now (t .entry)) at (i1 ∷ i2 ∷ i3 ∷ bytes32 x) ⌝ }
 {
-    let u = words::unsigned(x);
+    let u = file::bytes::unsigned(x);
     let u1 = u / 256;
     let u2 = u1 / 256;
     t[at] = i1;
     t[at + 1] = i2;
     t[at + 2] = i3;
-    t[at + 3] = words::narrow(u % 256);
-    t[at + 4] = words::narrow(u1 % 256);
-    t[at + 5] = words::narrow(u2 % 256);
-    t[at + 6] = words::narrow(u2 / 256);
+    t[at + 3] = file::bytes::narrow(u % 256);
+    t[at + 4] = file::bytes::narrow(u1 % 256);
+    t[at + 5] = file::bytes::narrow(u2 % 256);
+    t[at + 6] = file::bytes::narrow(u2 / 256);
 }
 
 // The first record.

@@ -3,13 +3,13 @@ use crate::counts::count_part;
 use crate::pieces::put_byte;
 use crate::pieces::put_header;
 use crate::pieces::put_term;
-use heads::head::Head;
+use system::head::Head;
 ghost use mathlib.Core.Path.{_≡_};
 ghost use mathlib.Core.Bool.{true};
 ghost use Prim.Native.Nat.{_+_, _≤_, _<_};
 ghost use lib.ListN.{length, take, drop};
-ghost use Rattle.words.specs.Bytes.{over};
-ghost use Rattle.heads.specs.Heads.{places};
+ghost use Rattle.file.specs.Bytes.{over};
+ghost use Rattle.system.specs.Heads.{places};
 ghost use Rattle.file.specs.Layout.{layout};
 ghost use Rattle.file.specs.Terms.{in-range};
 ghost use Rattle.writing.specs.Writing.{term-bytes, terms-bytes, polynomial-bytes, polynomials-bytes, all-in-range};
@@ -25,15 +25,15 @@ fn put_place(t: &mut [u8], at: usize, h: Head, p: usize, x: i64) -> usize
     if file::terms::is_zero(x) {
         return at;
     }
-    let b2 = words::wide(h.n2) + 1;
-    let b3 = words::wide(h.n3) + 1;
+    let b2 = file::bytes::wide(h.n2) + 1;
+    let b3 = file::bytes::wide(h.n3) + 1;
     let q = p / b3;
     put_term(
         t,
         at,
-        words::narrow(q / b2),
-        words::narrow(q % b2),
-        words::narrow(p % b3),
+        file::bytes::narrow(q / b2),
+        file::bytes::narrow(q % b2),
+        file::bytes::narrow(p % b3),
         x,
     );
     at + 7

@@ -1,7 +1,7 @@
 -- `tell_few` meets its contract. Assumes nothing.
 use mathlib.Core.Path.{_∙_}
-use Rattle.plain.specs.Lists.{listed}
-use Rattle.printing.specs.Lines.{told}
+use Rattle.runs.specs.Lists.{listed}
+use Rattle.desk.specs.Lines.{told}
 use Rattle.desk.proofs.Fitting.{few-fit, at-front}
 use Rattle.desk.proofs.tell_few.Statement.{statement}
 use Rattle.desk.proofs.tell_few.Tie as tie

@@ -4,8 +4,8 @@ use mathlib.Core.Path.{sym}
 use borrow.Author.Needs.{needs}
 use lib.ListN.{length}
 use lib.Seq.{length-take-le}
-use Rattle.plain.specs.Lists.{listed}
-use Rattle.printing.specs.Lines.{told}
+use Rattle.runs.specs.Lists.{listed}
+use Rattle.desk.specs.Lines.{told}
 use Rattle.solve.proofs.Front.{front-there}
 use Rattle.solve.proofs.print.Statement.{statement}
 use Rattle.solve.proofs.print.Tie as tie

@@ -8,9 +8,9 @@ use borrow.Author.Needs.{needs}
 use borrow.Author.Tests.{not-true, not-false}
 use lib.IntN.{ℤ}
 use lib.ListN.{length, take}
-use Rattle.heads.proofs.Heads.{places-high}
-use Rattle.heads.specs.Heads.{places, Limits}
-use Rattle.heads.specs.declared.head.Head.{Head}
+use Rattle.system.proofs.Heads.{places-high}
+use Rattle.system.specs.Heads.{places, Limits}
+use Rattle.system.specs.declared.head.Head.{Head}
 use Rattle.writing.proofs.Answering.{write-limits, its-limits, write-few, write-range, write-short, write-fine}
 use Rattle.writing.proofs.Joining.{file-parts, file-length}
 use Rattle.writing.specs.Counts.{count}

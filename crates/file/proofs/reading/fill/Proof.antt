@@ -3,11 +3,11 @@ use Prim.Native.Nat.{_+_, _-_, _<_, _≤_}
 use native.Mathlib.Omega.{arith}
 use borrow.Author.Needs.{needs}
 use lib.ListN.{length, drop}
-use Rattle.heads.specs.Heads.{places}
+use Rattle.system.specs.Heads.{places}
 use Rattle.file.proofs.Filling.{Filled, filled-long, filled-fits, filled-turn, filled-over, filled-start}
 use Rattle.file.specs.Layout.{layout}
 use Rattle.file.specs.Reading.{numbers-of}
-use Rattle.words.specs.Bytes.{word16}
+use Rattle.file.specs.Bytes.{word16}
 use Rattle.file.proofs.reading.fill.Statement.{statement}
 use Rattle.file.proofs.reading.fill.Tie as tie
 

@@ -6,7 +6,7 @@ use borrow.Author.Needs.{needs}
 use lib.ListN.{length}
 use Rattle.file.proofs.Walking.{polynomial-stop, polynomial-room, polynomial-number, polynomial-terms}
 use Rattle.file.specs.Layout.{layout}
-use Rattle.words.specs.Bytes.{word16}
+use Rattle.file.specs.Bytes.{word16}
 use Rattle.file.proofs.reading.polynomial_at.Statement.{statement}
 use Rattle.file.proofs.reading.polynomial_at.Tie as tie
 

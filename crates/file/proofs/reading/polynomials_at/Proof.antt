@@ -7,7 +7,7 @@ use lib.ListN.{length, drop}
 use Rattle.file.proofs.Walking.{polynomial-long, polynomials-turn, polynomials-stop, polynomials-over}
 use Rattle.file.specs.Layout.{layout}
 use Rattle.file.specs.Reading.{polynomials}
-use Rattle.words.specs.Bytes.{word16}
+use Rattle.file.specs.Bytes.{word16}
 use Rattle.file.proofs.reading.polynomials_at.Statement.{statement}
 use Rattle.file.proofs.reading.polynomials_at.Tie as tie
 

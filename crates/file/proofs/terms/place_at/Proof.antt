@@ -4,11 +4,11 @@ use Prim.Native.Nat.{_+_}
 use native.Mathlib.Omega.{arith}
 use borrow.Author.Needs.{needs}
 use Rattle.bernstein.specs.Three.{three}
-use Rattle.heads.specs.Heads.{degrees}
+use Rattle.system.specs.Heads.{degrees}
 use Rattle.file.proofs.Layouts.{place-of-bytes}
 use Rattle.file.proofs.TermTests.{exponents-there}
 use Rattle.file.specs.Layout.{layout}
-use Rattle.words.specs.Bytes.{byte}
+use Rattle.file.specs.Bytes.{byte}
 use Rattle.file.proofs.terms.place_at.Statement.{statement}
 use Rattle.file.proofs.terms.place_at.Tie as tie
 

@@ -2,7 +2,7 @@
 use mathlib.Core.Path.{refl, sym, _∙_}
 use native.Mathlib.Omega.{arith}
 use borrow.Author.Needs.{needs}
-use Rattle.heads.proofs.Heads.{checked-tells, slots-high}
+use Rattle.system.proofs.Heads.{checked-tells, slots-high}
 use Rattle.waiting.proofs.Slotting.{needed-is}
 use Rattle.malachirp.proofs.starts.malachirp_sizes.Statement.{statement}
 use Rattle.malachirp.proofs.starts.malachirp_sizes.Tie as tie

@@ -1,7 +1,7 @@
 -- `malachirp_visit` meets its contract: by the cases of what `visit` answers. Assumes nothing.
 use mathlib.Core.Path.{_≡_, refl, sym, _∙_}
 use borrow.Author.Needs.{needs}
-use Rattle.codes.specs.Codes.{head-from, state-from}
+use Rattle.malachirp.specs.Codes.{head-from, state-from}
 use Rattle.malachirp.proofs.Unchanged.{visit-unmade}
 use Rattle.malachirp.proofs.visits.malachirp_visit.Statement.{statement}
 use Rattle.malachirp.proofs.visits.malachirp_visit.Tie as tie

@@ -5,9 +5,9 @@ use native.Mathlib.Omega.{arith}
 use borrow.Author.Tests.{lt-leb, le-leb}
 use borrow.Author.Needs.{needs}
 use lib.ListN.{take, length}
-use Rattle.heads.specs.Heads.{places}
-use Rattle.heads.proofs.Heads.{head-says}
-use Rattle.patch.specs.Rules.{every, within}
+use Rattle.system.specs.Heads.{places}
+use Rattle.system.proofs.Heads.{head-says}
+use Rattle.slots.specs.Rules.{every, within}
 use Rattle.waiting.specs.Starts.{start-check}
 use Rattle.waiting.proofs.Slotting.{passed, failed}
 use Rattle.waiting.proofs.start.check_start.Statement.{statement}

@@ -3,7 +3,7 @@ use Prim.Native.Nat.{_*_}
 use mathlib.Core.Path.{_≡_, refl}
 use native.Mathlib.Omega.{arith}
 use borrow.Author.Needs.{needs}
-use Rattle.heads.specs.Heads.{depth, width}
+use Rattle.system.specs.Heads.{depth, width}
 use Rattle.waiting.proofs.Starting.{filled-inside, filled}
 use Rattle.waiting.proofs.start.fill.Statement.{statement}
 use Rattle.waiting.proofs.start.fill.Tie as tie

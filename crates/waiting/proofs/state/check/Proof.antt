@@ -2,7 +2,7 @@
 use mathlib.Core.Path.{refl, _∙_}
 use borrow.Author.Tests.{leb-true}
 use borrow.Author.Needs.{needs}
-use Rattle.heads.proofs.Heads.{head-says}
+use Rattle.system.proofs.Heads.{head-says}
 use Rattle.waiting.specs.States.{judged}
 use Rattle.waiting.proofs.Judging.{counts-inside}
 use Rattle.waiting.proofs.Slotting.{passed, failed}

@@ -4,7 +4,7 @@ use mathlib.Core.Path.{refl}
 use native.Mathlib.Omega.{arith}
 use borrow.Author.Tests.{lt-leb, le-leb}
 use borrow.Author.Needs.{needs}
-use Rattle.heads.specs.Heads.{depth}
+use Rattle.system.specs.Heads.{depth}
 use Rattle.waiting.specs.States.{counts-ok}
 use Rattle.waiting.proofs.state.counts_ok.Statement.{statement}
 use Rattle.waiting.proofs.state.counts_ok.Tie as tie

@@ -2,8 +2,8 @@
 use mathlib.Core.Path.{sym, subst}
 use native.Mathlib.Omega.{arith}
 use borrow.Author.Needs.{needs}
-use Rattle.steps.specs.Steps.{Ready}
-use Rattle.steps.proofs.Keeping.{judged-ready}
+use Rattle.waiting.specs.Steps.{Ready}
+use Rattle.waiting.proofs.Keeping.{judged-ready}
 use Rattle.waiting_run.proofs.through.one_visit.Statement.{statement}
 use Rattle.waiting_run.proofs.through.one_visit.Tie as tie
 

@@ -6,10 +6,10 @@ use native.Mathlib.Omega.{arith}
 use borrow.Author.Needs.{needs}
 use lib.IntN.{ℤ}
 use lib.ListN.{length}
-use Rattle.steps.specs.declared.cursor.Cursor.{Cursor}
-use Rattle.steps.specs.Steps.{Ready, next}
-use Rattle.steps.proofs.Keeping.{ready-next, next-fewer, judged-ready}
-use Rattle.steps.proofs.Driving.{turns-left}
+use Rattle.waiting.specs.declared.cursor.Cursor.{Cursor}
+use Rattle.waiting.specs.Steps.{Ready, next}
+use Rattle.waiting.proofs.Keeping.{ready-next, next-fewer, judged-ready}
+use Rattle.waiting.proofs.Driving.{turns-left}
 use Rattle.waiting_run.proofs.through.through.Statement.{statement}
 use Rattle.waiting_run.proofs.through.through.Tie as tie
 

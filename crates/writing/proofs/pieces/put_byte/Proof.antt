@@ -1,6 +1,6 @@
 -- `pieces::put_byte` meets its contract. Assumes nothing.
 use borrow.Author.Needs.{needs}
-use Rattle.words.proofs.Putting.{put1}
+use Rattle.file.proofs.Putting.{put1}
 use Rattle.writing.proofs.pieces.put_byte.Statement.{statement}
 use Rattle.writing.proofs.pieces.put_byte.Tie as tie
 

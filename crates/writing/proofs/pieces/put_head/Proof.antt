@@ -2,7 +2,7 @@
 use native.Mathlib.Omega.{arith}
 use borrow.Author.Needs.{needs}
 use lib.ListN.{length-set}
-use Rattle.words.proofs.Putting.{put-front}
+use Rattle.file.proofs.Putting.{put-front}
 use Rattle.writing.specs.Writing.{record-bytes, head-body}
 use Rattle.writing.proofs.pieces.put_head.Statement.{statement}
 use Rattle.writing.proofs.pieces.put_head.Tie as tie

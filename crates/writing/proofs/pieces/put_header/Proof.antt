@@ -3,7 +3,7 @@ use mathlib.Core.Path.{refl, _∙_}
 use native.Mathlib.Omega.{arith}
 use borrow.Author.Needs.{needs}
 use lib.ListN.{length-set}
-use Rattle.words.proofs.Putting.{put4}
+use Rattle.file.proofs.Putting.{put4}
 use Rattle.writing.proofs.pieces.put_header.Statement.{statement}
 use Rattle.writing.proofs.pieces.put_header.Tie as tie
 

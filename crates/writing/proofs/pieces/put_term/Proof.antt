@@ -4,8 +4,8 @@ use native.Mathlib.Omega.{arith}
 use borrow.Author.Needs.{needs}
 use lib.ListN.{length-set}
 use mir.Facts.{toZ-ofZ}
-use Rattle.words.specs.Bytes.{unsigned32}
-use Rattle.words.proofs.Putting.{put7}
+use Rattle.file.specs.Bytes.{unsigned32}
+use Rattle.file.proofs.Putting.{put7}
 use Rattle.writing.proofs.pieces.put_term.Statement.{statement}
 use Rattle.writing.proofs.pieces.put_term.Tie as tie
 

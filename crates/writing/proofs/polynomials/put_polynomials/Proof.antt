@@ -6,9 +6,9 @@ use Prim.Native.Nat.{ℕ, _*_, _+_, _-_, _≤_}
 use native.Mathlib.Omega.{arith}
 use borrow.Author.Needs.{needs}
 use lib.ListN.{length, take, drop}
-use Rattle.heads.specs.Heads.{places}
+use Rattle.system.specs.Heads.{places}
 use Rattle.file.specs.Layout.{Layout, layout}
-use Rattle.words.proofs.Putting.{Putting, putting-start, putting-same, putting-fits, putting-turn, putting-over}
+use Rattle.file.proofs.Putting.{Putting, putting-start, putting-same, putting-fits, putting-turn, putting-over}
 use Rattle.writing.proofs.Joining.{next-room, next-record, next-all, last-record}
 use Rattle.writing.specs.Writing.{polynomial-bytes, polynomials-bytes, all-in-range}
 use Rattle.writing.proofs.polynomials.put_polynomials.Statement.{statement}

@@ -10,7 +10,7 @@ use lib.ListN.{length, getD, take, drop}
 use Rattle.file.specs.Layout.{Layout, layout}
 use Rattle.file.specs.Terms.{in-range}
 use Rattle.whole.proofs.Machine.{back}
-use Rattle.words.proofs.Putting.{Putting, putting-start, putting-same, putting-fits, putting-turn, putting-over}
+use Rattle.file.proofs.Putting.{Putting, putting-start, putting-same, putting-fits, putting-turn, putting-over}
 use Rattle.writing.proofs.Placing.{next-bytes, next-range, left-all, left-none}
 use Rattle.writing.specs.Writing.{term-bytes, terms-bytes, all-in-range}
 use Rattle.writing.proofs.polynomials.put_terms.Statement.{statement}

@@ -4,9 +4,9 @@ use mathlib.Core.Path.{sym, ap, ap₂, _∙_}
 use borrow.Author.Needs.{needs}
 use Rattle.bernstein.specs.Three.{Direction}
 use Rattle.boxes.proofs.Halves.{half-asked, half-outside}
-use Rattle.heads.proofs.Says.{and-left}
+use Rattle.system.proofs.Says.{and-left}
 use Rattle.boxes.specs.Boxes.{box-ok, half-at, half-in}
-use Rattle.heads.specs.Directions.{between}
+use Rattle.system.specs.Directions.{between}
 use Rattle.boxes.proofs.half.Box.half.Statement.{statement}
 use Rattle.boxes.proofs.half.Box.half.Tie as tie
 

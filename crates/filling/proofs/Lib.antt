@@ -1,4 +1,0 @@
-pub mod Working
-pub mod Cutting
-pub mod Weighing
-pub mod Spreading

@@ -1,3 +1,0 @@
-pub mod Sizes
-pub mod Lists
-pub mod Telling

@@ -1,3 +1,0 @@
-pub mod Kepts
-pub mod Passed
-pub mod Turns

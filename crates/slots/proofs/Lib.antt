@@ -1,0 +1,11 @@
+pub mod Builds
+pub mod Exactness
+pub mod Decided
+pub mod Chosen
+pub mod Tests
+pub mod Looking
+pub mod Laying
+pub mod Working
+pub mod Cutting
+pub mod Weighing
+pub mod Spreading

@@ -1,4 +1,0 @@
-pub mod Turning
-pub mod Driving
-pub mod Keeping
-pub mod Becoming
