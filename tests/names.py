@@ -1,5 +1,6 @@
 #!/usr/bin/env python3
-"""Every name that the documents cite exists: `crate/File.name` in specs, `crate::path::name` in src, `crate!edit` in must-fail.
+"""Every name that the documents cite exists: `crate/File.name` in specs, `crate::path::name` in src, `crate!edit` in must-fail,
+and after "run:" a text of tests/cases or a program whose output the gate compares.
 
     tests/names.py            checks docs/*.md and README.md, and prints how many names it found
 Ends with 1 and a line for each name that is nowhere.
@@ -59,10 +60,24 @@ def names_in(text):
                 yield cited, found.group(1) in CRATES and exists(found.group(1), found.group(2))
 
 
+def in_runs(name):
+    """A text of cases, or a program with the output that it must write."""
+    return (ROOT / name).is_file() if name.startswith("tests/cases/") else (ROOT / "crates" / name / "stdout").is_file()
+
+
+def runs_in(text):
+    """What is named after "run:", up to the end of the cell or sentence, each with whether it exists."""
+    for named in re.findall(r"\brun: ([^;|\n]+)", text):
+        for name in re.sub(r"\([^)]*\)", "", named).split(","):
+            name = name.strip().rstrip(".")
+            yield "run: " + name, in_runs(name)
+
+
 def main():
     count, missing = 0, []
     for document in [ROOT / "README.md", *sorted((ROOT / "docs").rglob("*.md"))]:
-        for cited, there in names_in(document.read_text()):
+        text = document.read_text()
+        for cited, there in [*names_in(text), *runs_in(text)]:
             count += 1
             if not there:
                 missing.append(f"{document.relative_to(ROOT)}: `{cited}` is nowhere")

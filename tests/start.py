@@ -1,16 +1,34 @@
-"""How a program that `rt check` built is started: by the words that tools/start gives."""
+"""How a proved program is built, where that is still to be done, and started: by the words that tools/start gives."""
 
 import os
 import subprocess
+import sys
 
 ROOT = os.path.dirname(os.path.dirname(os.path.abspath(__file__)))
+
+
+class Unbuilt(Exception):
+    """A program that is not there; the text says why, and what makes it."""
+
+
+def build(names):
+    """Proves and links the programs of these names, unless they are there and nothing below them has changed."""
+    missing = [name for name in names if not os.path.exists(os.path.join(ROOT, "target", "bin", name))]
+    if missing:
+        print("building %s: everything below is proved first, which takes some minutes" % " and ".join(missing), file=sys.stderr, flush=True)
+    try:
+        said = subprocess.run(["rt", "check", *names], cwd=ROOT, stdin=subprocess.DEVNULL, stdout=subprocess.PIPE, stderr=subprocess.STDOUT, text=True)
+    except FileNotFoundError:
+        raise Unbuilt("the Rattle toolchain is missing: no rt on the path") from None
+    if said.returncode != 0:
+        raise Unbuilt("%s`rt check %s` failed" % (said.stdout, " ".join(names)))
 
 
 def words(name):
     """The command that starts the proved program of this name."""
     said = subprocess.run([os.path.join(ROOT, "tools", "start"), "--words", name], stdout=subprocess.PIPE, stderr=subprocess.PIPE)
     if said.returncode != 0:
-        raise FileNotFoundError(said.stderr.decode().strip())
+        raise Unbuilt(said.stderr.decode().strip())
     return said.stdout.decode().splitlines()
 
 

@@ -24,6 +24,11 @@ def split(data):
     return calls
 
 
+def file_of(call):
+    """The file buffer of a call."""
+    return call[HEADER:HEADER + struct.unpack_from("<Q", call, 8)[0]]
+
+
 def compare(program, data, name, maker_of, spoil):
     """Compares the answers to all calls of `data`; answers how many there are."""
     expected, found = reference("calls", data=data), output(program, data)

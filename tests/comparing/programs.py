@@ -16,8 +16,13 @@ class Difference(Exception):
 
 def build_reference():
     """Builds the independent program, or sees that it is built."""
-    subprocess.run(["cargo", "build", "--offline", "--release", "--quiet", "--manifest-path",
-                    os.path.join(PACKAGE, "Cargo.toml")], check=True)
+    try:
+        said = subprocess.run(["cargo", "build", "--offline", "--release", "--quiet", "--manifest-path",
+                               os.path.join(PACKAGE, "Cargo.toml")])
+    except FileNotFoundError:
+        raise start.Unbuilt("cargo is missing, which builds the independent program") from None
+    if said.returncode != 0:
+        raise start.Unbuilt("cargo did not build the independent program")
 
 
 def output(words, data=b""):
