@@ -3,12 +3,14 @@
 
     tests/plain/bench.py [--counter NAME] [--only TEXT] [PROGRAM]
 
-PROGRAM is the desk program, target/bin/solve if left out. search.c is built with
+PROGRAM is the desk program, that of this repository if left out. search.c is built with
 -O3, and both read each system of systems/ and of examples/. Printed are, for each
 system, the visits, the instructions that each program executed from its start to
 its end, the C program's beside the proved one's, and their ratio; on an x86-64
 machine also the seconds, the least of five runs. What the two print has to be
 the same. The exit code is 0 then, 1 if something differs, 2 if a tool is missing.
+tests/needs installs the compilers and the emulator, or says what to install;
+the desk program is proved and linked first, where that is still to be done.
 
 Instructions are counted by the first of these that works, or by the one named:
 qemu      Debian's qemu-user, with the plugin count.c
@@ -34,8 +36,9 @@ sys.dont_write_bytecode = True  # leaves nothing behind beside the tools
 
 HERE = os.path.dirname(os.path.abspath(__file__))
 ROOT = os.path.dirname(os.path.dirname(HERE))
-sys.path.insert(0, os.path.join(ROOT, "tools"))
+sys.path[:0] = [os.path.join(ROOT, "tools"), os.path.join(ROOT, "tests")]
 
+import start
 from readable.system_file import to_bytes
 from readable.system_text import from_text
 
@@ -47,11 +50,19 @@ class Missing(Exception):
     pass
 
 
-def first_of(names, purpose):
-    for name in names:
-        if shutil.which(name):
-            return name
-    raise Missing("%s: %s not installed" % (purpose, names[0] + " is" if len(names) == 1 else " and ".join(names) + " are"))
+def needed(*words):
+    """What tests/needs prints, once all of it is there; its one line where something can't be installed."""
+    said = subprocess.run([os.path.join(ROOT, "tests", "needs"), *words], capture_output=True, text=True)
+    if said.returncode:
+        raise Missing((said.stderr.strip().splitlines() or ["tests/needs failed"])[-1])
+    sys.stderr.write(said.stderr)
+    return said.stdout.strip()
+
+
+def installed(name):
+    if not shutil.which(name):
+        raise Missing("to count by %s: it is not installed" % name)
+    return name
 
 
 def built(compiler, words, source, to):
@@ -76,19 +87,19 @@ def loader():
 
 
 def by_qemu(folder):
-    qemu = first_of(["qemu-x86_64"], "to count by qemu")
-    compiler = first_of(["gcc", "cc", "clang"], "to build qemu's plugin")
-    plugin = built(compiler, ["-O2", "-shared", "-fPIC", "-Wl,--unresolved-symbols=ignore-all"], "count.c", os.path.join(folder, "count.so"))
-    return [qemu, "-E", "GLIBC_TUNABLES=" + PLAIN_MEMORY, "-plugin", plugin], r"instructions (\d+)", {}
+    needed("qemu-x86_64", "own-compiler")
+    words = ["-O2", "-shared", "-fPIC", "-Wl,--unresolved-symbols=ignore-all"]
+    plugin = built("cc" if shutil.which("cc") else "gcc", words, "count.c", os.path.join(folder, "count.so"))
+    return ["qemu-x86_64", "-E", "GLIBC_TUNABLES=" + PLAIN_MEMORY, "-plugin", plugin], r"instructions (\d+)", {}
 
 
 def by_valgrind(folder):
-    words = [first_of(["valgrind"], "to count by valgrind"), "--tool=callgrind", "--callgrind-out-file=/dev/null"]
+    words = [installed("valgrind"), "--tool=callgrind", "--callgrind-out-file=/dev/null"]
     return words, r"Collected *: *(\d+)", {"GLIBC_TUNABLES": PLAIN_MEMORY}
 
 
 def by_perf(folder):
-    words = [first_of(["perf"], "to count by perf"), "stat", "-x,", "-e", "instructions:u"]
+    words = [installed("perf"), "stat", "-x,", "-e", "instructions:u"]
     return words, r"(?m)^(\d+),[^,]*,instructions", {}
 
 
@@ -122,6 +133,7 @@ def counter(wanted, folder, under, sample):
             return made
         except Missing as reason:
             reasons.append(str(reason))
+            print("bench.py: not by %s: %s" % (name, reason), file=sys.stderr)
     raise Missing("no way to count instructions:\n  " + "\n  ".join(reasons))
 
 
@@ -143,12 +155,23 @@ def systems(only):
                     yield name[:-4], to_bytes(from_text(text.read()))
 
 
+def desk_program(named):
+    """The program named, or the one of this repository, built where that is still to be done."""
+    if named is None:
+        try:
+            start.build(["solve"])
+        except start.Unbuilt as reason:
+            raise Missing(str(reason)) from None
+        return os.path.join(ROOT, "target", "bin", "solve")
+    if not os.path.exists(named):
+        raise Missing("no program at %s" % named)
+    return os.path.abspath(named)
+
+
 def compare(arguments, folder):
-    program = os.path.abspath(arguments.program)
-    if not os.path.exists(program):
-        raise Missing("no program at %s: `rt check solve` makes it" % arguments.program)
+    program = desk_program(arguments.program)
     under = loader()
-    compiler = first_of(["gcc", "cc"] if NATIVE else ["x86_64-linux-gnu-gcc"], "to build search.c for x86-64")
+    compiler = needed("--compiler")
     plain = built(compiler, ["-O3"], "search.c", os.path.join(folder, "search"))
     chosen = list(systems(arguments.only))
     if not chosen:
@@ -172,7 +195,7 @@ def compare(arguments, folder):
 
 def main():
     parser = argparse.ArgumentParser(description=__doc__, formatter_class=argparse.RawDescriptionHelpFormatter)
-    parser.add_argument("program", nargs="?", default=os.path.join(ROOT, "target", "bin", "solve"))
+    parser.add_argument("program", nargs="?")
     parser.add_argument("--counter", choices=list(COUNTERS))
     parser.add_argument("--only", default="", metavar="TEXT")
     with tempfile.TemporaryDirectory() as folder:

@@ -79,7 +79,7 @@ fn read_terms(head: &Head, terms: &[u8], at: usize) -> Result<Vec<i64>, Refusal>
             return Err(Refusal::at(6, offset));
         }
         let place = head.place(term);
-        if before.is_some_and(|before| place <= before) {
+        if matches!(before, Some(before) if place <= before) {
             return Err(Refusal::at(7, offset));
         }
         values[place] = value;
