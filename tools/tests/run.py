@@ -1,5 +1,5 @@
 #!/usr/bin/env python3
-"""Tests the readable-text tools.
+"""Tests the readable-text tools and the pictures.
 
     python3 tools/tests/run.py [WORD ..]
 
@@ -19,6 +19,7 @@ sys.path[:0] = [HERE, os.path.dirname(HERE)]
 
 import test_draw
 import test_file
+import test_house
 import test_sweep
 import test_text
 from checks import Checks, example
@@ -51,7 +52,8 @@ def run(checks, name, tests):
 def main(arguments):
     checks = Checks()
     parts = [run(checks, "text", test_text.TESTS), run(checks, "file", test_file.TESTS),
-             run(checks, "sweep", test_sweep.TESTS), run(checks, "draw", test_draw.TESTS)]
+             run(checks, "sweep", test_sweep.TESTS), run(checks, "draw", test_draw.TESTS),
+             run(checks, "house", test_house.TESTS)]
     if arguments:
         program = [os.path.abspath(arguments[0])] + arguments[1:]
 
