@@ -1,5 +1,5 @@
 #!/usr/bin/env python3
-"""Every name that the documents cite exists: `crate/File.name` in specs, `crate::path::name` in src, `crate!edit` in must-fail,
+"""Every name that the documents cite exists: `crate/File.name` in specs, `crate::path::name` in src, `crate!edit` in must-fail or teeth,
 and after "run:" a text of tests/cases or a program whose output the gate compares.
 
     tests/names.py            checks docs/*.md and README.md, and prints how many names it found
@@ -41,7 +41,7 @@ def in_src(crate, path):
 
 
 def in_edits(crate, name):
-    return (ROOT / "crates" / crate / "must-fail" / (name + ".edit")).is_file()
+    return any((ROOT / "crates" / crate / folder / (name + ".edit")).is_file() for folder in ("must-fail", "teeth"))
 
 
 FORMS = [
