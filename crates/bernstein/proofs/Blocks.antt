@@ -9,15 +9,10 @@ use lib.ListN.{getD}
 use Rattle.whole.specs.Half.{Half}
 use Rattle.bernstein.specs.Three.{Direction, first, second, third, _!_, replace, Upto}
 use Rattle.bernstein.specs.Numbers.{Degrees, Index, half-line, half-patch}
-use Rattle.bernstein.specs.Places.{place, size, stride, patch}
+use Rattle.bernstein.specs.Places.{place, size, stride, patch, blocks}
 use Rattle.bernstein.proofs.Places.{row-below}
 
--- how many blocks there are, in which an index lies, and in which of its lines
-abbrev pub blocks : Degrees → Direction → ℕ
-blocks n first = 1
-blocks n second = n .x₁ + 1
-blocks n third = (n .x₁ + 1) * (n .x₂ + 1)
-
+-- in which block an index lies, and in which of its lines
 abbrev pub block : Degrees → Direction → Index → ℕ
 block n first j = 0
 block n second j = j .x₁

@@ -4,14 +4,14 @@ use mathlib.Core.Path.{_≡_, sym, _∙_, ap, subst, subst₂, fun-ext}
 use mathlib.Core.List.{[], _∷_}
 use Prim.Native.Nat.{ℕ, _*_, _-_, _≤_}
 use lib.IntN.{ℤ, pos, pow, _*ℤ_, *ℤ-zero}
-use lib.Signed.{_<ℤ_, <ℤ-irrefl}
+use lib.Signed.{_<ℤ_}
 use Rattle.whole.specs.Half.{Half}
 use Rattle.whole.specs.Sums.{choose}
 use Rattle.whole.proofs.Quote.{ring, reads}
 use Rattle.whole.proofs.Order.{pos-<, positive-*, *ℤ-cancel-<}
 use Rattle.bernstein.specs.Three.{Direction, first, second, third, Three, three, _!_, replace, Upto, product}
-use Rattle.bernstein.specs.Numbers.{Degrees, Small, Index, Patch, Box, unit, half-box, scale, weight, part, moved, formula, Exact, half-patch}
-use Rattle.bernstein.specs.Points.{Within, value-over, value, Sign, above, below, Has, All-have}
+use Rattle.bernstein.specs.Numbers.{Degrees, Small, Index, Patch, Box, unit, half-box, scale, weight, part, moved, formula, Exact, half-patch, weighted}
+use Rattle.bernstein.specs.Points.{Within, value-over, value, Sign, Has, All-have}
 use Rattle.bernstein.specs.Claims.{Start-exact, Cut-exact, Sign-holds}
 use Rattle.bernstein.proofs.Functionals.{Line, Linear, Functional}
 use Rattle.bernstein.proofs.Steps.{steps, step-functional}
@@ -38,10 +38,6 @@ value-nested n X q a = sum-nested n (λ r i. pow (X ! r) i *ℤ pow (q ! r) (n !
 pub of-moved : (n : Degrees) (b : Box) (a : Patch) {A C : Direction → Map} → ((r : Direction) → Functional (A r))
     → ((r : Direction) (f : Line) → A r (λ t. moved-line (n ! r) (b ! r) t f) ≡ C r f) → nested A (moved n b a) ≡ nested C a
 of-moved n b a {A} l h = ap (nested A) (fun-ext (moved-nested n b a)) ∙ lift l (λ r t. moved-functional (n ! r) (b ! r) t .linear) h a
-
--- the coefficients with their weights, scale / C(N, I)
-abbrev pub weighted : Degrees → Patch → Patch
-weighted n a i = product (λ r. pos (weight (n ! r) (i ! r))) *ℤ a i
 
 module _ (n : Degrees) (m : Small n) (a : Patch) where
   formulas : (j : Index) (r : Direction) → Functional (formula-line (weight (n ! r)) (j ! r))
@@ -140,11 +136,3 @@ cut-exact n m a p b e h r = cut n m a b e h r
 
 pub sign-holds : Sign-holds
 sign-holds n m a p b e s h X q hq w = sign n m a b X q hq w e s h
-
--- a box whose numbers have one sign holds no zero
-pub no-zero : {n : Degrees} → Small n → {b : Box} {a p : Patch} → Exact n b a p → (s : Sign) → All-have s n p → {X : Three ℤ} {q : ℤ} → Within b X q → pos 0 <ℤ q → value n X q a ≡ pos 0 → ⊥
-no-zero {n} m {b} {a} {p} e s h {X} {q} w hq z = never s (subst (Has s) z (sign-holds n m a p b e s h X q hq w))
-  where
-    never : (s : Sign) → Has s (pos 0) → ⊥
-    never above k = <ℤ-irrefl k
-    never below k = <ℤ-irrefl k

@@ -15,5 +15,6 @@ pub mod Spreads
 pub mod Starts
 pub mod Indices
 pub mod Places
+pub mod Frames
 pub mod Blocks
 pub mod Examples

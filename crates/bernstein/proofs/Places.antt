@@ -9,13 +9,12 @@ use lib.IntN.{ℤ, pos}
 use lib.ListN.{getD}
 use Rattle.whole.specs.Half.{Half}
 use Rattle.bernstein.specs.Three.{Direction, first, second, third, _!_, replace, Upto}
-use Rattle.bernstein.specs.Numbers.{Degrees, Small, Index, Patch, Box, unit, half-box, formula, Exact, line, half-patch}
-use Rattle.bernstein.specs.Places.{place, size, index, patch, Filled, Held}
+use Rattle.bernstein.specs.Numbers.{Degrees, Index, Patch, Box, Exact, line, half-patch}
+use Rattle.bernstein.specs.Places.{place, size, index, patch}
 use Rattle.bernstein.specs.Claims.{Place-below, Place-once, Place-steps}
 use Rattle.bernstein.proofs.Indices.{index-place}
 use Rattle.bernstein.proofs.Lines.{half-cong}
 use Rattle.bernstein.proofs.Nested.{upto-replace}
-use Rattle.bernstein.proofs.Boxes.{start-exact, cut-exact}
 
 -- ---- a row of d + 1 places
 pub row-below : (c d i j : ℕ) → i < c → j ≤ d → i * (d + 1) + j < c * (d + 1)
@@ -46,11 +45,3 @@ half-same h {n} r {p} {q} e j u = half-cong (n ! r) (line r p j) (line r q j) (�
 -- a fact of all numbers of a part of the store is one of all numbers of the patch there
 pub patch-all : (P : ℤ → Type 0) (n : Degrees) (l : List ℤ) (base : ℕ) → ((x : ℕ) → x < size n → P (getD l (base + x) (pos 0))) → (j : Index) → Upto j n → P (patch n l base j)
 patch-all P n l base h j u = h (place n j) (place-below n j u)
-
--- ---- what a start and a cut have to write
-pub held-start : {n : Degrees} → Small n → {a : Patch} {l : List ℤ} {base : ℕ} → Filled n (formula n a) l base → Held n unit a l base
-held-start {n} s {a} f = record { held = exact-same (start-exact n s a) (f .filled) }
-
-pub held-half : {n : Degrees} → Small n → {b : Box} {a : Patch} {l : List ℤ} {base : ℕ} → Held n b a l base → (h : Half) (r : Direction) {m : List ℤ} {at : ℕ}
-    → Filled n (half-patch h n r (patch n l base)) m at → Held n (half-box h r b) a m at
-held-half {n} s {b} {a} {l} {base} e h r f = record { held = exact-same (cut-exact n s a _ b (e .held) h r) (f .filled) }

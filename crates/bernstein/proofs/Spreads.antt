@@ -11,13 +11,13 @@ use Rattle.whole.proofs.Ring.{one-*ℤ, *ℤ-assoc}
 use Rattle.whole.proofs.Choose.{choose-zero}
 use Rattle.whole.proofs.Parts.{by-lt}
 use Rattle.bernstein.specs.Three.{Direction, first, second, third, _!_, Upto}
-use Rattle.bernstein.specs.Numbers.{Degrees, Index, Patch, weight, formula, after, half-line, line}
+use Rattle.bernstein.specs.Numbers.{Degrees, Index, Patch, weight, formula, after, half-line, weighted, spread}
 use Rattle.bernstein.proofs.Functionals.{Line, comb, combs}
 use Rattle.bernstein.proofs.Steps.{Splits}
 use Rattle.bernstein.proofs.Lines.{after-same, casteljau}
 use Rattle.bernstein.proofs.Binomials.{row, pascal-sum, sum-one}
 use Rattle.bernstein.proofs.Nested.{nested-cong, nested-weights}
-use Rattle.bernstein.proofs.Boxes.{weighted, formula-nested}
+use Rattle.bernstein.proofs.Boxes.{formula-nested}
 
 -- ---- the steps of one line
 -- binomial sums of neighbours split
@@ -52,10 +52,6 @@ half-lower n b j l = ap (λ z. pos (2 ^ (n - j)) *ℤ z) (after-still b n j l)
 pub half-upper : (n : ℕ) (b : Line) (j : ℕ) → half-line upper n b j ≡ pos (2 ^ j) *ℤ after b (n - j) n
 unfolding half-line
 half-upper n b j = refl
-
--- ---- all lines of a direction after all their steps
-abbrev pub spread : Degrees → Direction → Patch → Patch
-spread n r p j = after (line r p j) (n ! r) (j ! r)
 
 -- how starting numbers are made: what stands before the steps along r, the third direction first
 abbrev pub stage : Degrees → Patch → Direction → Patch

@@ -13,12 +13,11 @@ use Rattle.whole.proofs.Sizes.{natAbs-*}
 use Rattle.whole.proofs.Sums.{sum-abs}
 use Rattle.whole.proofs.Choose.{choose-self}
 use Rattle.bernstein.specs.Three.{Direction, first, second, third, three, _!_, Upto, sum-upto, product}
-use Rattle.bernstein.specs.Numbers.{Degrees, Small, Index, Patch, scale, weight, formula, Cuttable}
+use Rattle.bernstein.specs.Numbers.{Degrees, Small, Index, Patch, scale, weight, formula, Cuttable, weighted}
 use Rattle.bernstein.specs.Places.{size}
 use Rattle.bernstein.specs.Claims.{Start-fits}
 use Rattle.bernstein.proofs.Tests.{together, implied, implied-at}
 use Rattle.bernstein.proofs.Nested.{upto-three}
-use Rattle.bernstein.proofs.Boxes.{weighted}
 use Rattle.bernstein.proofs.Sizes.{two-room, line-size}
 use Rattle.bernstein.proofs.Spreads.{stage}
 

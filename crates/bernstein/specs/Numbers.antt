@@ -93,6 +93,13 @@ line r p j i = p (replace r i j)
 abbrev pub half-patch : Half → Degrees → Direction → Patch → Patch
 half-patch h n r p j = half-line h (n ! r) (line r p j) (j ! r)
 
+-- ---- how a start makes its numbers: the coefficients times their weights, then all steps along all lines of each direction
+abbrev pub weighted : Degrees → Patch → Patch
+weighted n a i = product (λ r. pos (weight (n ! r) (i ! r))) *ℤ a i
+
+abbrev pub spread : Degrees → Direction → Patch → Patch
+spread n r p j = after (line r p j) (n ! r) (j ! r)
+
 -- a polynomial's part in "can be cut in direction r": every number is at most 2^(62 - n) - 1 in size
 pub record Cuttable (n : Degrees) (r : Direction) (p : Patch) : Type 0 where
   pub cuttable : (j : Index) → Upto j n → Below (2 ^ (62 - n ! r)) (p j)

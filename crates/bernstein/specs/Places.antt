@@ -1,11 +1,10 @@
 -- Flat places (01, "The system"): term (i1, i2, i3) has place (i1 (n2 + 1) + i2) (n3 + 1) + i3 of S places; a patch in a store of numbers. Definitions only.
-use mathlib.Core.Path.{_≡_}
 use mathlib.Core.List.{List}
 use Prim.Native.Nat.{ℕ, _+_, _*_, _/_, _%_}
 use lib.IntN.{ℤ, pos}
 use lib.ListN.{getD}
-use Rattle.bernstein.specs.Three.{Direction, first, second, third, three, Upto}
-use Rattle.bernstein.specs.Numbers.{Degrees, Index, Patch, Box, Exact}
+use Rattle.bernstein.specs.Three.{Direction, first, second, third, three}
+use Rattle.bernstein.specs.Numbers.{Degrees, Index, Patch}
 
 unfoldable pub place : Degrees → Index → ℕ
 place n j = (j .x₁ * (n .x₂ + 1) + j .x₂) * (n .x₃ + 1) + j .x₃
@@ -24,14 +23,12 @@ stride n first = (n .x₂ + 1) * (n .x₃ + 1)
 stride n second = n .x₃ + 1
 stride n third = 1
 
+-- the lines of a direction lie in that many blocks, side by side
+abbrev pub blocks : Degrees → Direction → ℕ
+blocks n first = 1
+blocks n second = n .x₁ + 1
+blocks n third = (n .x₁ + 1) * (n .x₂ + 1)
+
 -- the patch that stands in the store l from place base on
 abbrev pub patch : Degrees → List ℤ → ℕ → Patch
 patch n l base j = getD l (base + place n j) (pos 0)
-
--- the store l from place base on is, number by number, the patch p
-pub record Filled (n : Degrees) (p : Patch) (l : List ℤ) (base : ℕ) : Type 0 where
-  pub filled : (j : Index) → Upto j n → patch n l base j ≡ p j
-
--- the store l from place base on holds the numbers of the polynomial a on the box b
-pub record Held (n : Degrees) (b : Box) (a : Patch) (l : List ℤ) (base : ℕ) : Type 0 where
-  pub held : Exact n b a (patch n l base)

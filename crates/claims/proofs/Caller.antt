@@ -2,7 +2,7 @@
 use mathlib.Core.Path.{_≡_, refl, sym, ap, ap₂, subst, _∙_}
 use mathlib.Core.Bool.{Bool, cond}
 use mathlib.Core.List.{List, map}
-use Prim.Native.Nat.{ℕ, suc}
+use Prim.Native.Nat.{ℕ, suc, _≤_}
 use native.Mathlib.Numerals.{add-one}
 use native.Mathlib.Omega.{arith}
 use lib.IntN.{ℤ}
@@ -24,7 +24,7 @@ use Rattle.runs.specs.Visits.{One, visit-of}
 use Rattle.waiting.specs.declared.state.State.{State}
 use Rattle.waiting.specs.declared.cursor.Kept.{Kept}
 use Rattle.waiting.specs.declared.cursor.Cursor.{Cursor}
-use Rattle.waiting.specs.Cells.{cells}
+use Rattle.waiting.specs.Cells.{boxed, cells}
 use Rattle.waiting.specs.States.{judged}
 use Rattle.waiting.specs.States.{memory-of, state-of}
 use Rattle.waiting.specs.Steps.{begun, due, seen}
@@ -34,11 +34,15 @@ use Rattle.waiting.proofs.Driving.{run-drives, turn-turns, remembered}
 use Rattle.claims.specs.Calls.{Memory, called}
 use Rattle.claims.specs.Caller.{Gives, Run-is-a-call, Tells, Visit-is-a-visit, Same-effects, Visit-is-a-run, Refusal-changes-nothing}
 
+-- those kept are there
+kept-there : (h : Head) (s : State) (list : List (Entry Box)) (st : List ℤ) → judged h s st (map forget list) ≡ Checked.Good → s .kept ≤ length list
+kept-there h s list st e = omega (arith, judged-allowed h s st (map forget list) .0 e .2 .kept-high, length-map list forget)
+
 pub run-is-a-call : Run-is-a-call
 run-is-a-call h s budget list st e =
     let c = begun s budget (length list) in
-    let d : Ends (went h (suc budget) (way (map forget list) st c)) (called h budget (memory-of st list s)) = run-drives h list st c refl refl (judged-allowed h s st (length list) .0 e .2 .kept-high) in
-    rw (length-map list forget, e, add-one budget)
+    let d : Ends (went (boxed h) (suc budget) (way (map forget list) st c)) (called h budget (memory-of st list s)) = run-drives ℤ (boxed h) list st c refl refl (kept-there h s list st e) in
+    rw (e, length-map list forget, add-one budget)
     (record { answer = ap₂ (λ (w : Word) (k : State). Answer.Stopped (record { word = w; state = k })) (d .word) (d .state); leaves = record { list = d .list; store = d .store } })
 
 -- ---- a visit
@@ -50,15 +54,15 @@ module _ (h : Head) (s : State) (list : List (Entry Box)) (st : List ℤ) where
   abbrev before : Cursor
   before = begun s 1 (length list)
 
-  abbrev after : Way
-  after = turned h (way (map forget list) st before)
+  abbrev after : Way ℤ
+  after = turned (boxed h) (way (map forget list) st before)
 
   abbrev told : Seen.Visit
-  told = seen h st before (due h st before)
+  told = seen (boxed h) st before (due (boxed h) st before)
 
-  tells : (t : Turn) → One-turn h list st before t → Tells (record { answer = answer told (after .cursor); end = after }) h (memory-of st list s) t
-  tells nothing q = (ap (λ (w : Way). answer told (w .cursor)) q, record { list = ap (λ (w : Way). w .list) q; store = ap (λ (w : Way). w .store) q })
-  tells no-room q = (ap (λ (w : Way). answer told (w .cursor)) q, record { list = ap (λ (w : Way). w .list) q; store = ap (λ (w : Way). w .store) q })
+  tells : (t : Turn) → One-turn (boxed h) list st before t → Tells (record { answer = answer told (after .cursor); end = after }) h (memory-of st list s) t
+  tells nothing q = (ap (λ (w : Way ℤ). answer told (w .cursor)) q, record { list = ap (λ (w : Way ℤ). w .list) q; store = ap (λ (w : Way ℤ). w .store) q })
+  tells no-room q = (ap (λ (w : Way ℤ). answer told (w .cursor)) q, record { list = ap (λ (w : Way ℤ). w .list) q; store = ap (λ (w : Way ℤ). w .store) q })
   tells go q = (
     ap (λ (b : Bool). cond b (Visit.Answer.Saw (record { state = after .cursor .state; visit = told })) (Visit.Answer.Stopped (after .cursor .word))) (q .0 .goes)
         ∙ ap₂ (λ (k : State) (v : Seen.Visit). Visit.Answer.Saw (record { state = k; visit = v })) (q .0 .state) (q .1),
@@ -67,8 +71,8 @@ module _ (h : Head) (s : State) (list : List (Entry Box)) (st : List ℤ) where
 
 pub visit-is-a-visit : Visit-is-a-visit
 visit-is-a-visit h s list st e =
-    let t = turn-turns h list st (begun s 1 (length list)) (omega arith) refl (judged-allowed h s st (length list) .0 e .2 .kept-high) in
-    rw (length-map list forget, e) (tells h s list st (lent (cells h) .turn (length list) (memory-of st list s)) t)
+    let t = turn-turns ℤ (boxed h) list st (begun s 1 (length list)) (omega arith) refl (kept-there h s list st e) in
+    rw (e, length-map list forget) (tells h s list st (lent (cells h) .turn (length list) (memory-of st list s)) t)
 
 -- ---- refusals
 pub refusal-changes-nothing : Refusal-changes-nothing
@@ -98,15 +102,15 @@ same-effects h s f v r k go e q g =
     record { answers = rw (q .0, g .answer, d) refl; list = q .1 .list ∙ rw (g .leaves .list, d); store = q .1 .store ∙ rw (g .leaves .store, d) }
 
 pub visit-is-a-run : Visit-is-a-run
-visit-is-a-run h s list st = from (judged h s st (length list)) refl
+visit-is-a-run h s list st = from (judged h s st list) refl
   where
-    entries : (k : List (Entry Box)) → judged h s st (length k) ≡ Checked.Good → Same-effects s (visit-of h s (map forget k) st) (run-of h s 1 (map forget k) st)
+    entries : (k : List (Entry Box)) → judged h s st (map forget k) ≡ Checked.Good → Same-effects s (visit-of h s (map forget k) st) (run-of h s 1 (map forget k) st)
     entries k e = same-effects h s (memory-of st k s) _ _ refl (lent (cells h) .turn (length k) (memory-of st k s)) refl (visit-is-a-visit h s k st e) (run-is-a-call h s 1 k st e)
 
-    from : (v : Checked) → judged h s st (length list) ≡ v → Same-effects s (visit-of h s list st) (run-of h s 1 list st)
+    from : (v : Checked) → judged h s st list ≡ v → Same-effects s (visit-of h s list st) (run-of h s 1 list st)
     from Good e =
         subst (λ (l : List Kept). Same-effects s (visit-of h s l st) (run-of h s 1 l st)) (remembered list)
-        (entries (map remember list) (ap (λ (n : ℕ). judged h s st n) (length-map list remember) ∙ e))
+        (entries (map remember list) (ap (judged h s st) (remembered list) ∙ e))
     from (Stopped-by x) e =
         let q = refusal-changes-nothing h s list st x e in
         record {

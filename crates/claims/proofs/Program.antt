@@ -40,11 +40,13 @@ use Rattle.desk.specs.Lines.{word, refusal-line, stop-line, kept-lines, told}
 use Rattle.desk.specs.Report.{Found, run-found, system-found, found, report}
 use Rattle.desk.proofs.Finding.{found-begun, found-read, found-unread}
 use Rattle.desk.proofs.Room.{room-enough}
-use Rattle.claims.specs.Calls.{Memory, fresh, called, Begun, at-start, boxes-of}
+use Rattle.claims.specs.Calls.{Memory, fresh, called, Begun, boxes-of}
 use Rattle.claims.specs.Caller.{Gives}
 use Rattle.claims.specs.Reached.{Reached, by-start, by-run}
 use Rattle.claims.specs.Program.{no-coefficients, empty-store, free, program-call, Prints-refusal, lines-of, Prints-a-run, finished-lines, Whole, Prints-finished}
-use Rattle.claims.proofs.Calls.{good, good-after, good-judged}
+use Rattle.search.specs.Lent.{at-start}
+use Rattle.search.proofs.Calls.{good-after}
+use Rattle.claims.proofs.Calls.{kept-up, good, good-judged}
 use Rattle.claims.proofs.Demands.{answers-mean, finished-is-whole}
 use Rattle.claims.proofs.Caller.{run-is-a-call}
 use Rattle.claims.proofs.Reached.{take-map, in-record}
@@ -159,7 +161,7 @@ module _ (h : Head) (cs st : List ℤ) (e : start-check h cs st ≡ Checked.Good
   -- as many records as are counted, and 0 waiting
   when-finished : called h budget f .answer ≡ finished → lines-of h (called h budget f .answer) end ≡ finished-lines (end .visits) (end .dropped) records
   when-finished a =
-      let g = good-after h (start-passes h cs st e .limits) cs f (good h cs st e f b) budget in
+      let g = good-after (cells h) (kept-up h cs st e) f (good h cs st e f b) budget in
       let counted : length records ≡ end .kept = length-map (boxes-of h end .kept) forget ∙ length-take-le (end .kept) (end .list) (g .enough .kept-fits) in
       let waits : end .waiting ≡ 0 = none-waits h budget (length (f .list)) (boxes-of h f) end (called h budget f .answer) a (answers-mean h cs st e f b budget) in
       ap (λ (w : Answer). lines-of h w end) a
@@ -185,5 +187,5 @@ prints-finished s b rest q = from (reads s no-coefficients .0) refl
           dropped = f .dropped;
           boxes = map forget (boxes-of h f .kept);
           prints = p .prints ∙ when-finished h cs empty-store (p .accepted) start (at-start _) 1000000 a;
-          whole = λ x i z. in-record x (boxes-of h f .kept) (finished-is-whole h cs empty-store (p .accepted) start (at-start _) 1000000 a x i z);
+          whole = λ x i z. in-record h x (boxes-of h f .kept) (finished-is-whole h cs empty-store (p .accepted) start (at-start _) 1000000 a x i z);
         }

@@ -18,7 +18,8 @@ use Rattle.slots.specs.Slots.{box-in}
 use Rattle.search.specs.Lists.{Any}
 use Rattle.search.specs.Search.{Entry}
 use Rattle.search.specs.Claims.{Held}
-use Rattle.search.specs.Lent.{slot, stack, slots, memory, used, lent}
+use Rattle.search.specs.Lent.{slot, stack, slots, memory, used, lent, at-start, continued}
+use Rattle.search.proofs.Calls.{Good, both}
 use Rattle.waiting.specs.declared.state.State.{State}
 use Rattle.waiting.specs.declared.start.Started.{Started}
 use Rattle.waiting.specs.declared.cursor.Kept.{Kept}
@@ -37,10 +38,10 @@ use Rattle.runs.specs.declared.visits.Answer as Visit
 use Rattle.runs.specs.Runs.{run-of}
 use Rattle.runs.specs.Visits.{visit-of}
 use Rattle.runs.specs.Tables.{box-of}
-use Rattle.claims.specs.Calls.{Memory, fresh, called, Begun, at-start, continued, boxes-of}
+use Rattle.claims.specs.Calls.{Memory, fresh, called, Begun, boxes-of}
 use Rattle.claims.specs.Caller.{Gives}
 use Rattle.claims.specs.Reached.{by-start, by-run, by-visit, with-longer, Shows, Stands-for, Reached-is-begun, Never-refused, Reached-exact, Reached-holds}
-use Rattle.claims.proofs.Calls.{Good, good, good-judged, both}
+use Rattle.claims.proofs.Calls.{kept-up, good, good-judged}
 use Rattle.claims.proofs.Demands.{waiting-exact, no-zero-lost}
 use Rattle.claims.proofs.Caller.{run-is-a-call, visit-is-a-run, no-budget}
 
@@ -68,21 +69,21 @@ module _ (h : Head) (cs st : List ℤ) where
 
   -- ---- a call from lent memory f, whenever a call begins
   module _ (e : start-check h cs st ≡ Checked.Good) (f : Memory) (b : Begun h cs st f) where
-    shown-good : Good h cs f
+    shown-good : Good (cells h) (kept-up h cs st e) f
     shown-good = good h cs st e f b
 
-    pub passes : judged h (state-of f) (f .store) (length (map forget (f .list))) ≡ Checked.Good
-    passes = ap (λ (n : ℕ). judged h (state-of f) (f .store) n) (length-map (f .list) forget) ∙ good-judged h (start-passes h cs st e .limits) cs f shown-good
+    pub passes : judged h (state-of f) (f .store) (map forget (f .list)) ≡ Checked.Good
+    passes = good-judged h (start-passes h cs st e .limits) cs f shown-good
 
     module _ (budget : ℕ) where
       abbrev after : Memory
       after = called h budget f .state
 
       begun-after : Begun h cs st after
-      begun-after = continued b budget after refl (omega (arith, both h (start-passes h cs st e .limits) cs f shown-good budget .state .0 .room-is))
+      begun-after = continued b budget after refl (omega (arith, both (cells h) (kept-up h cs st e) f shown-good budget .state .0 .room-is))
 
       gives : Gives (run-of h (state-of f) budget (map forget (f .list)) (f .store)) h budget f
-      gives = run-is-a-call h (state-of f) budget (f .list) (f .store) (good-judged h (start-passes h cs st e .limits) cs f shown-good)
+      gives = run-is-a-call h (state-of f) budget (f .list) (f .store) passes
 
     ran : (budget : ℕ) (r : Stop) → run-of h (state-of f) budget (map forget (f .list)) (f .store) .answer ≡ Run.Answer.Stopped r
         → Stands-for h cs st (r .state) (run-of h (state-of f) budget (map forget (f .list)) (f .store) .end .list) (run-of h (state-of f) budget (map forget (f .list)) (f .store) .end .store)
@@ -164,7 +165,7 @@ reached-is-begun h cs st _ _ _ (with-longer {s} {list} {store} p next e l) =
 pub never-refused : Never-refused
 never-refused h cs st s list store p =
     let t = reached-is-begun h cs st s list store p in
-    as-shown (λ s l k. judged h s k (length l) ≡ Checked.Good) (t .memory) s list store (t .shows) (passes h cs st (t .accepted) (t .memory) (t .begun))
+    as-shown (λ s l k. judged h s k l ≡ Checked.Good) (t .memory) s list store (t .shows) (passes h cs st (t .accepted) (t .memory) (t .begun))
 
 -- ---- demands 2 and 3 of what a call left: a call with no budget leaves it so
 pub reached-exact : Reached-exact
@@ -180,18 +181,18 @@ take-map f (suc k) [] = refl
 take-map f (suc k) (x ∷ l) = ap (λ (m : List _). f x ∷ m) (take-map f k l)
 
 -- in the box of an entry, and of its record
-pub in-record : (x : Point) (es : List (Entry Box)) → Any (λ e. LiesIn x (e .place)) es → Any (λ k. LiesIn x (as-box (box-of k))) (map forget es)
-in-record x (e ∷ es) (inl i) = inl i
-in-record x (e ∷ es) (inr a) = inr (in-record x es a)
+pub in-record : (h : Head) (x : Point) (es : List (Entry Box)) → Any (λ e. LiesIn h x (e .place)) es → Any (λ k. LiesIn h x (as-box (box-of k))) (map forget es)
+in-record h x (e ∷ es) (inl i) = inl i
+in-record h x (e ∷ es) (inr a) = inr (in-record h x es a)
 
 pub reached-holds : Reached-holds
 reached-holds h cs st s list store p x i z =
     let t = reached-is-begun h cs st s list store p in
-    as-shown (λ s l k. Any (λ n. LiesIn x (box-in n)) (stack (width h) (s .waiting) k) ⊎ Any (λ r. LiesIn x (as-box (box-of r))) (take (s .kept) l)) (t .memory) s list store (t .shows)
-    (told (t .memory) (subst (λ (f : Memory). Held (slots (cells h)) LiesIn x (boxes-of h f)) (no-budget (lent (cells h)) (length (t .memory .list)) (t .memory))
+    as-shown (λ s l k. Any (λ n. LiesIn h x (box-in n)) (stack (width h) (s .waiting) k) ⊎ Any (λ r. LiesIn h x (as-box (box-of r))) (take (s .kept) l)) (t .memory) s list store (t .shows)
+    (told (t .memory) (subst (λ (f : Memory). Held (slots (cells h)) (LiesIn h) x (boxes-of h f)) (no-budget (lent (cells h)) (length (t .memory .list)) (t .memory))
     (no-zero-lost h cs st (t .accepted) (t .memory) (t .begun) 0 x i z)))
   where
-    told : (f : Memory) → Held (slots (cells h)) LiesIn x (boxes-of h f)
-        → Any (λ n. LiesIn x (box-in n)) (stack (width h) (f .waiting) (f .store)) ⊎ Any (λ r. LiesIn x (as-box (box-of r))) (take (f .kept) (map forget (f .list)))
+    told : (f : Memory) → Held (slots (cells h)) (LiesIn h) x (boxes-of h f)
+        → Any (λ n. LiesIn h x (box-in n)) (stack (width h) (f .waiting) (f .store)) ⊎ Any (λ r. LiesIn h x (as-box (box-of r))) (take (f .kept) (map forget (f .list)))
     told f (inl a) = inl a
-    told f (inr a) = inr (rw (take-map forget (f .kept) (f .list)) (in-record x (take (f .kept) (f .list)) a))
+    told f (inr a) = inr (rw (take-map forget (f .kept) (f .list)) (in-record h x (take (f .kept) (f .list)) a))

@@ -23,7 +23,7 @@ use Rattle.system.specs.Heads.{degrees, width}
 use Rattle.slots.specs.declared.Decision.{Decision}
 use Rattle.slots.specs.declared.Choice.{Choice}
 use Rattle.slots.specs.Slots.{at, numbers}
-use Rattle.slots.specs.Rules.{decided, better, chosen, limit, can-cut, by-choice, by-decision, looked}
+use Rattle.slots.specs.Rules.{decided, better, chosen, limit, can-cut, able, by-choice, looked-by, looked}
 use Rattle.waiting.specs.Cells.{as-look}
 use Rattle.waiting.proofs.Judging.{every-says}
 use Rattle.claims.specs.Rules.{cuts, most, Mixed-below, Direction-due, Can-be-cut, Says, Rules-mean}
@@ -122,7 +122,7 @@ module _ (h : Head) (l : List ℤ) (long : length l ≡ width h) where
 
   -- ---- the steps in order
   module _ (deep : (r : Direction) → cuts h l r ≤ most h l r) where
-    by-direction : Mixed-below h l (h .m) → (c : Choice) → Best 3 c → Says h l (as-look (by-choice h l c))
+    by-direction : Mixed-below h l (h .m) → (c : Choice) → Best 3 c → Says h l (as-look (by-choice (able h l) c))
     by-direction m Choice.Nowhere b = (m, inl (refl, λ r. omega (arith, deep r, b r (every-one r))))
     by-direction m (Choice.Along r) b = from (can-cut h (direction r) l) refl
       where
@@ -130,7 +130,7 @@ module _ (h : Head) (l : List ℤ) (long : length l ≡ width h) where
         from true e = (m, due b, small r e)
         from false e = (m, inr (refl, (r, due b, large r e)))
 
-    by-sign : (d : Decision) → Told (h .m) (size (degrees h)) 1 (numbers l) d → Says h l (as-look (by-decision h l d))
+    by-sign : (d : Decision) → Told (h .m) (size (degrees h)) 1 (numbers l) d → Says h l (as-look (looked-by h l d (able h l)))
     by-sign (Decision.By p s) t = record {
       which = t .which;
       is-one = t .is-one;

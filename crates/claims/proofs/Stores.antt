@@ -20,7 +20,7 @@ use Rattle.slots.specs.Slots.{half-slot, unit-slot}
 use Rattle.slots.proofs.Builds.{half-slot-length, unit-slot-length}
 use Rattle.search.specs.Machine.{go}
 use Rattle.search.specs.Search.{Look, is-dropped, is-kept, is-cut, Entry}
-use Rattle.search.specs.Lent.{put, slot, stack, in-slot, given-up, lent, lent-become, lent-top}
+use Rattle.search.specs.Lent.{put, slot, stack, in-slot, given-up, lent, lent-become, lent-top, at-start, continued}
 use Rattle.search.proofs.Machine.{drive-cases}
 use Rattle.search.proofs.Lent.{stacked-length}
 use Rattle.search.proofs.Slots.{stack-length, put-length}
@@ -29,9 +29,9 @@ use Rattle.waiting.specs.States.{needed}
 use Rattle.waiting.specs.Starts.{start-check, fresh-store}
 use Rattle.waiting.proofs.Keeping.{Kept-in, visit-in}
 use Rattle.waiting.proofs.Starting.{start-passes}
-use Rattle.claims.specs.Calls.{Memory, called, Begun, at-start, continued}
+use Rattle.claims.specs.Calls.{Memory, called, Begun}
 use Rattle.claims.specs.Demands.{ListStays, Store-beyond, List-beyond}
-use Rattle.claims.proofs.Calls.{Good, good}
+use Rattle.claims.proofs.Calls.{good}
 
 -- ---- numbers written over a store
 module _ (at : ℕ) (x st : List ℤ) (fits : at + length x ≤ length st) where
@@ -148,7 +148,7 @@ module _ (h : Head) (cs st : List ℤ) (e : start-check h cs st ≡ Checked.Good
   R = drop (needed h) st
 
   kept-in : (f : Memory) → Begun h cs st f → Kept-in h f
-  kept-in f b = let g = good h cs st e f b in record { enough = g .enough; stands = g .passable .stands }
+  kept-in f b = let g = good h cs st e f b in record { enough = g .enough; stands = g .also .stands }
 
   -- a call, where the store is as it should be
   leaves : (f : Memory) → Begun h cs st f → Beyond h R (f .waiting) (f .store) → (budget : ℕ) → Left h R f (called h budget f .state)

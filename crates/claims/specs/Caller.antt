@@ -17,7 +17,7 @@ use Rattle.search.specs.Search.{Entry}
 use Rattle.search.specs.Lent.{lent}
 use Rattle.waiting.specs.declared.state.State.{State}
 use Rattle.waiting.specs.declared.cursor.Kept.{Kept}
-use Rattle.waiting.specs.Cells.{cells}
+use Rattle.waiting.specs.Cells.{boxed, cells}
 use Rattle.waiting.specs.States.{judged}
 use Rattle.waiting.specs.States.{memory-of, state-of}
 use Rattle.waiting.specs.Steps.{top, visit-of as seen-in}
@@ -31,7 +31,7 @@ use Rattle.runs.specs.Visits.{One, visit-of}
 use Rattle.claims.specs.Calls.{Memory, called}
 
 -- the list and the store, every place: a record of the list is an entry without its visit number
-pub record Leaves (w : Way) (f : Memory) : Type 0 where
+pub record Leaves (w : Way ℤ) (f : Memory) : Type 0 where
   pub list : w .list ≡ map forget (f .list)
   pub store : w .store ≡ f .store
 
@@ -42,7 +42,7 @@ pub record Gives (r : Run) (h : Head) (budget : ℕ) (f : Memory) : Type 0 where
 
 -- for every list of entries that the records are
 abbrev pub Run-is-a-call : Type 0
-Run-is-a-call = (h : Head) (s : State) (budget : ℕ) (list : List (Entry Box)) (st : List ℤ) → judged h s st (length list) ≡ Checked.Good
+Run-is-a-call = (h : Head) (s : State) (budget : ℕ) (list : List (Entry Box)) (st : List ℤ) → judged h s st (map forget list) ≡ Checked.Good
     → Gives (run-of h s budget (map forget list) st) h budget (memory-of st list s)
 
 -- ---- a visit, by what the rules say before it
@@ -52,12 +52,12 @@ abbrev pub Tells : One → Head → Memory → Turn → Type 0
 Tells r h f nothing = (r .answer ≡ Visit.Answer.Stopped Word.Finished) × Leaves (r .end) f
 Tells r h f no-room = (r .answer ≡ Visit.Answer.Stopped Word.Full) × Leaves (r .end) f
 Tells r h f go =
-    let box = top h (f .store) (state-of f) in
+    let box = top (boxed h) (f .store) (state-of f) in
     let after = lent (cells h) .visit f in
-    (r .answer ≡ Visit.Answer.Saw (record { state = state-of after; visit = seen-in box (looked h box) })) × Leaves (r .end) after
+    (r .answer ≡ Visit.Answer.Saw (record { state = state-of after; visit = seen-in (boxed h) box (looked h box) })) × Leaves (r .end) after
 
 abbrev pub Visit-is-a-visit : Type 0
-Visit-is-a-visit = (h : Head) (s : State) (list : List (Entry Box)) (st : List ℤ) → judged h s st (length list) ≡ Checked.Good
+Visit-is-a-visit = (h : Head) (s : State) (list : List (Entry Box)) (st : List ℤ) → judged h s st (map forget list) ≡ Checked.Good
     → Tells (visit-of h s (map forget list) st) h (memory-of st list s) (lent (cells h) .turn (length list) (memory-of st list s))
 
 -- what a visit and a run with a budget of one answer, from the state s: the same counts; the same word where no visit is made; the same refusal
@@ -79,11 +79,11 @@ abbrev pub Visit-is-a-run : Type 0
 Visit-is-a-run = (h : Head) (s : State) (list : List Kept) (st : List ℤ) → Same-effects s (visit-of h s list st) (run-of h s 1 list st)
 
 -- ---- "All return the number and an offset and change nothing lent"
-pub record Unmoved (w : Way) (list : List Kept) (st : List ℤ) : Type 0 where
+pub record Unmoved (w : Way ℤ) (list : List Kept) (st : List ℤ) : Type 0 where
   pub list-stays : w .list ≡ list
   pub store-stays : w .store ≡ st
 
 abbrev pub Refusal-changes-nothing : Type 0
-Refusal-changes-nothing = (h : Head) (s : State) (list : List Kept) (st : List ℤ) (x : Refused) → judged h s st (length list) ≡ Checked.Refused x
+Refusal-changes-nothing = (h : Head) (s : State) (list : List Kept) (st : List ℤ) (x : Refused) → judged h s st list ≡ Checked.Refused x
     → ((budget : ℕ) → (run-of h s budget list st .answer ≡ Answer.Refused x) × Unmoved (run-of h s budget list st .end) list st)
     × ((visit-of h s list st .answer ≡ Visit.Answer.Refused x) × Unmoved (visit-of h s list st .end) list st)

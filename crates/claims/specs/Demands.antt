@@ -6,11 +6,11 @@ use Prim.Native.Nat.{ℕ, suc, _+_, _*_, _-_, _≤_, _<_}
 use lib.IntN.{ℤ, pos}
 use lib.ListN.{length, take, drop, replicate}
 use Rattle.bernstein.specs.Numbers.{Box, unit}
-use Rattle.bernstein.specs.Points.{Has, value}
+use Rattle.bernstein.specs.Points.{Has}
 use Rattle.system.specs.declared.head.Head.{Head}
 use Rattle.system.specs.declared.head.Checked.{Checked}
 use Rattle.boxes.specs.declared.visit.Sign.{Sign}
-use Rattle.system.specs.Heads.{degrees, depth, width}
+use Rattle.system.specs.Heads.{depth, frame, width}
 use Rattle.boxes.specs.Visits.{sign}
 use Rattle.slots.specs.Slots.{box-in, polynomial, unit-slot}
 use Rattle.search.specs.Lists.{All, Any}
@@ -75,14 +75,15 @@ Counts-of-visits = EveryCall (λ h cs f budget. Counted (slots (cells h)) (boxes
 
 -- 3. "wherever it stops: every rational point of the unit box at which all polynomials are zero lies in a kept or a waiting box, edges counted"
 abbrev pub No-zero-lost : Type 0
-No-zero-lost = EveryCall (λ h cs f budget. (x : Point) → LiesIn x unit → CommonZero h cs x → Held (slots (cells h)) LiesIn x (boxes-of h (called h budget f .state)))
+No-zero-lost = EveryCall (λ h cs f budget. (x : Point) → LiesIn h x unit → CommonZero h cs x
+    → Held (slots (cells h)) (LiesIn h) x (boxes-of h (called h budget f .state)))
 
 -- "each dropped box has one polynomial with the same strict sign at all its rational points": the polynomial that is named, with the sign that is named
 pub record OneSign (h : Head) (cs l : List ℤ) (p : ℕ) (s : Sign) : Type 0 where
   pub which : ℕ
   pub below : which < h .m
   pub named : p ≡ 1 + which
-  pub signs : (x : Point) → LiesIn x (box-in l) → Has (sign s) (value (degrees h) (x .numerators) (x .q) (polynomial h cs which))
+  pub signs : (x : Point) → LiesIn h x (box-in l) → Has (sign s) (frame h .value (x .numerators) (x .q) (polynomial h cs which))
 
 abbrev pub Dropped-one-sign : Type 0
 Dropped-one-sign = EveryCall (λ h cs f budget.
@@ -93,7 +94,8 @@ Dropped-one-sign = EveryCall (λ h cs f budget.
 abbrev pub Longer-goes-on : Type 0
 Longer-goes-on = (h : Head) (cs st st′ : List ℤ) → start-check h cs st ≡ Checked.Good → start-check h cs st′ ≡ Checked.Good
     → (list list′ : List (Entry Box)) (budget budget′ : ℕ) → budget ≤ budget′ → length list ≤ length list′
-    → Further (slots (cells h)) InsideBox (boxes-of h (called h budget (fresh h cs st list) .state)) (boxes-of h (called h budget′ (fresh h cs st′ list′) .state))
+    → Further (slots (cells h)) (InsideBox h) (boxes-of h (called h budget (fresh h cs st list) .state))
+    (boxes-of h (called h budget′ (fresh h cs st′ list′) .state))
 
 -- 4. "The answer says whether the list is short or whole, and how many boxes wait": finished, nothing waits; spent, the budget is used up and boxes wait;
 -- full, the top box would be kept and there is no room
@@ -104,7 +106,7 @@ Answers-mean = EveryCall (λ h cs f budget.
 -- "The list is whole": where a run answers finished, every common zero lies in a kept box
 abbrev pub Finished-is-whole : Type 0
 Finished-is-whole = EveryCall (λ h cs f budget. called h budget f .answer ≡ finished
-    → (x : Point) → LiesIn x unit → CommonZero h cs x → Any (λ e. LiesIn x (e .place)) (boxes-of h (called h budget f .state) .kept))
+    → (x : Point) → LiesIn h x unit → CommonZero h cs x → Any (λ e. LiesIn h x (e .place)) (boxes-of h (called h budget f .state) .kept))
 
 -- 01, "Runs": "D + 1 slots are always enough"
 abbrev pub Slots-enough : Type 0

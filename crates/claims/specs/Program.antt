@@ -74,7 +74,7 @@ pub record Whole (s : List ℕ) : Type 0 where
   pub dropped : ℕ
   pub boxes : List Kept
   pub prints : report s ≡ finished-lines visits dropped boxes
-  pub whole : (x : Point) → LiesIn x unit → CommonZero head coefficients x → Any (λ k. LiesIn x (as-box (box-of k))) boxes
+  pub whole : (x : Point) → LiesIn head x unit → CommonZero head coefficients x → Any (λ k. LiesIn head x (as-box (box-of k))) boxes
 
 abbrev pub Prints-finished : Type 0
 Prints-finished = (s : List ℕ) → Bytes s → (rest : List ℕ) → report s ≡ word Word.Finished ++ rest → Whole s

@@ -64,7 +64,8 @@ Reached-is-begun = (h : Head) (cs st : List ℤ) (s : State) (list : List Kept) 
 
 -- "A run may be continued from its state": the check lets every state through that a caller reaches, so no run and no visit from it is refused
 abbrev pub Never-refused : Type 0
-Never-refused = (h : Head) (cs st : List ℤ) (s : State) (list : List Kept) (store : List ℤ) → Reached h cs st s list store → judged h s store (length list) ≡ Checked.Good
+Never-refused = (h : Head) (cs st : List ℤ) (s : State) (list : List Kept) (store : List ℤ) → Reached h cs st s list store
+    → judged h s store list ≡ Checked.Good
 
 -- Demands 2 and 3 in the caller's own terms, of the state, the list and the store that a call left: each waiting slot has exact numbers; and every common zero of
 -- the unit box lies in a waiting slot's box or in the box of one of the first `kept` records.
@@ -74,5 +75,5 @@ Reached-exact = (h : Head) (cs st : List ℤ) (s : State) (list : List Kept) (st
 
 abbrev pub Reached-holds : Type 0
 Reached-holds = (h : Head) (cs st : List ℤ) (s : State) (list : List Kept) (store : List ℤ) → Reached h cs st s list store
-    → (x : Point) → LiesIn x unit → CommonZero h cs x
-    → Any (λ l. LiesIn x (box-in l)) (stack (width h) (s .waiting) store) ⊎ Any (λ k. LiesIn x (as-box (box-of k))) (take (s .kept) list)
+    → (x : Point) → LiesIn h x unit → CommonZero h cs x
+    → Any (λ l. LiesIn h x (box-in l)) (stack (width h) (s .waiting) store) ⊎ Any (λ k. LiesIn h x (as-box (box-of k))) (take (s .kept) list)

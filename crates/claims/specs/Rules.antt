@@ -8,13 +8,12 @@ use lib.IntN.{ℤ, natAbs}
 use lib.ListN.{length}
 use Rattle.bernstein.specs.Three.{_!_}
 use Rattle.bernstein.specs.Points.{Has}
-use Rattle.bernstein.specs.Places.{size}
 use Rattle.system.specs.declared.head.Head.{Head}
 use Rattle.boxes.specs.declared.half.Direction.{Direction}
 use Rattle.boxes.specs.declared.visit.Sign.{Sign}
 use Rattle.boxes.specs.Boxes.{direction}
 use Rattle.system.specs.Directions.{direction-number}
-use Rattle.system.specs.Heads.{degrees, depths, places, width}
+use Rattle.system.specs.Heads.{depths, frame, places, width}
 use Rattle.boxes.specs.Visits.{sign}
 use Rattle.slots.specs.Slots.{at, box-in, numbers}
 use Rattle.slots.specs.Rules.{looked}
@@ -31,7 +30,7 @@ module _ (h : Head) (l : List ℤ) where
 
   -- polynomial t, counted from 0, has all stored numbers above zero, or all below; zero is neither
   pub record OneSided (t : ℕ) (s : Sign) : Type 0 where
-    pub has : (i : ℕ) → i < size (degrees h) → Has (sign s) (at (numbers l) (t * size (degrees h) + i))
+    pub has : (i : ℕ) → i < frame h .size → Has (sign s) (at (numbers l) (t * frame h .size + i))
 
   -- none of the polynomials below t has
   abbrev pub Mixed-below : ℕ → Type 0
@@ -56,7 +55,7 @@ module _ (h : Head) (l : List ℤ) where
 
   -- "every stored number of every polynomial is at most 2^(62-n) - 1 in size"
   abbrev pub Can-be-cut : Direction → Type 0
-  Can-be-cut r = (i : ℕ) → i < places h → natAbs (at (numbers l) i) ≤ 2 ^ (62 - degrees h ! direction r) - 1
+  Can-be-cut r = (i : ℕ) → i < places h → natAbs (at (numbers l) i) ≤ 2 ^ (62 - frame h .degree (direction r)) - 1
 
   -- dropped; kept, with mark 1 or with mark 2; "4. Otherwise cut"
   abbrev pub Says : Look (ℕ × Sign) Direction → Type 0

@@ -4,9 +4,8 @@ use mathlib.Core.Bool.{Bool}
 use lib.Dec.{leb}
 use Rattle.bernstein.specs.Three.{_!_}
 use Rattle.bernstein.specs.Numbers.{Index}
-use Rattle.bernstein.specs.Places
 use Rattle.system.specs.Directions.{each}
-use Rattle.system.specs.Heads.{degrees}
+use Rattle.system.specs.Heads.{degrees, frame}
 use Rattle.system.specs.declared.head.Head.{Head}
 
 -- how many places there are; which exponents; their place; and the exponents at a place
@@ -19,8 +18,8 @@ pub record Layout : Type 0 where
 abbrev pub layout : Head → Layout
 layout h =
     record {
-      size = Places.size (degrees h);
+      size = frame h .size;
       within = λ j. each (λ r. leb (j ! r) (degrees h ! r));
-      place = Places.place (degrees h);
-      index = Places.index (degrees h);
+      place = frame h .place;
+      index = frame h .index;
     }

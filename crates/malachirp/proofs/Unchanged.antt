@@ -15,6 +15,7 @@ use Rattle.waiting.specs.declared.state.State.{State}
 use Rattle.waiting.specs.declared.step.Due.{Due}
 use Rattle.waiting.specs.declared.step.Due.the-variants.{Stop, Visit}
 use Rattle.waiting.specs.States.{judged}
+use Rattle.waiting.specs.Cells.{boxed}
 use Rattle.waiting.specs.Steps.{begun, due, next, nothing-kept}
 use Rattle.waiting.specs.Runs.{Way, went}
 use Rattle.runs.specs.declared.runs.Answer as Of-run
@@ -26,7 +27,7 @@ use Rattle.runs.specs.Lists.{listed, relisted}
 use Rattle.runs.proofs.Lists.{same-listed}
 
 -- the store and the list at a way's end are those that were there
-abbrev pub Same : List ℕ → List ℤ → Way → Type 0
+abbrev pub Same : List ℕ → List ℤ → Way ℤ → Type 0
 Same xs st w = (w .store ≡ st) × (relisted xs (w .list) ≡ xs)
 
 -- a visit was not made: it was refused, or it stopped
@@ -37,7 +38,7 @@ Unmade (Stopped-at x) = Unit {0}
 
 module _ (h : Head) (s : State) (xs : List ℕ) (st : List ℤ) where
   abbrev verdict : Checked
-  verdict = judged h s st (length (listed xs))
+  verdict = judged h s st (listed xs)
 
   pub run-refused : (budget : ℕ) (x : Refused) → run-of h s budget (listed xs) st .answer ≡ Of-run.Answer.Refused x → Same xs st (run-of h s budget (listed xs) st .end)
   unfolding went
@@ -54,10 +55,10 @@ module _ (h : Head) (s : State) (xs : List ℕ) (st : List ℤ) where
       unmade : Unmade (visit-of h s (listed xs) st .answer)
       unmade = rw e u
 
-      by : (d : Due) → verdict ≡ Checked.Good → due h st (begun s 1 (length (listed xs))) ≡ d → Same xs st (visit-of h s (listed xs) st .end)
+      by : (d : Due) → verdict ≡ Checked.Good → due (boxed h) st (begun s 1 (length (listed xs))) ≡ d → Same xs st (visit-of h s (listed xs) st .end)
       by (Stop w) p q = rw (p, q) (refl, ap (relisted xs) (set-out (listed xs) (length (listed xs)) nothing-kept (omega arith)) ∙ same-listed xs)
       by (Visit o) p q = absurd (rw (p, q) at unmade)
 
       from : (v : Checked) → verdict ≡ v → Same xs st (visit-of h s (listed xs) st .end)
-      from Good p = by (due h st (begun s 1 (length (listed xs)))) p refl
+      from Good p = by (due (boxed h) st (begun s 1 (length (listed xs)))) p refl
       from (Stopped-by x) p = rw p (refl, same-listed xs)

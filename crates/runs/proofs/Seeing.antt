@@ -11,6 +11,7 @@ use Rattle.system.specs.declared.head.Checked.{Checked}
 use Rattle.waiting.specs.declared.cursor.Cursor.{Cursor}
 use Rattle.waiting.specs.declared.state.State.{State}
 use Rattle.waiting.specs.declared.step.Made.{Made}
+use Rattle.waiting.specs.Cells.{boxed}
 use Rattle.waiting.specs.Steps.{Ready, due, next, seen}
 use Rattle.runs.specs.Visits.{unseen, told, One, one, visit-of}
 use Rattle.runs.specs.Lists.{listed, relisted}
@@ -36,7 +37,7 @@ module _ {h : Head} {s : State} {xs : List ℕ} {st : List ℤ} {n : ℕ} {v : C
   tells x e m list st′ a l d =
       (a ∙ ap (λ (y : One). y .answer) e, (l ∙ ap (λ (y : One). relisted xs (y .end .list)) e, d ∙ ap (λ (y : One). y .end .store) e))
 
-  pub saw : c .go ≡ true → (m : Made) (list : List ℕ) (st′ : List ℤ) → m .cursor ≡ next h st c .cursor → m .visit ≡ seen h st c (due h st c) → st′ ≡ next h st c .store
+  pub saw : c .go ≡ true → (m : Made) (list : List ℕ) (st′ : List ℤ) → m .cursor ≡ next (boxed h) st c .cursor → m .visit ≡ seen (boxed h) st c (due (boxed h) st c) → st′ ≡ next (boxed h) st c .store
       → list ≡ relisted xs (set (listed xs) (m .cursor .at) (m .cursor .kept)) → Told m list st′
   saw t m list st′ e f d p =
       tells (one h v (listed xs) st c true) (is-one true t) m list st′ (λ i. told v (record { cursor = e i; visit = f i }))

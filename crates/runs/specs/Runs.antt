@@ -12,6 +12,7 @@ use Rattle.waiting.specs.declared.state.State.{State}
 use Rattle.waiting.specs.declared.cursor.Kept.{Kept}
 use Rattle.waiting.specs.declared.cursor.Cursor.{Cursor}
 use Rattle.waiting.specs.States.{judged}
+use Rattle.waiting.specs.Cells.{boxed}
 use Rattle.waiting.specs.Steps.{begun, halted}
 use Rattle.waiting.specs.Runs.{Way, way, went}
 use Rattle.runs.specs.declared.runs.Answer.{Answer}
@@ -27,16 +28,16 @@ abbrev pub answered : Checked → Cursor → Answer
 answered Good c = Stopped (record { word = c .word; state = c .state })
 answered (Stopped-by x) c = Refused x
 
-abbrev pub set-out : Head → State → (budget : ℕ) → List Kept → List ℤ → Way
-set-out h s budget list st = way list st (opened (judged h s st (length list)) (begun s budget (length list)))
+abbrev pub set-out : Head → State → (budget : ℕ) → List Kept → List ℤ → Way ℤ
+set-out h s budget list st = way list st (opened (judged h s st list) (begun s budget (length list)))
 
 -- what a run answers, and where it ends: the list, the store and the cursor
 pub record Run : Type 0 where
   pub answer : Answer
-  pub end : Way
+  pub end : Way ℤ
 
 abbrev pub run-of : Head → State → (budget : ℕ) → List Kept → List ℤ → Run
 run-of h s budget list st = record {
-  answer = answered (judged h s st (length list)) (went h (budget + 1) (set-out h s budget list st) .cursor);
-  end = went h (budget + 1) (set-out h s budget list st);
+  answer = answered (judged h s st list) (went (boxed h) (budget + 1) (set-out h s budget list st) .cursor);
+  end = went (boxed h) (budget + 1) (set-out h s budget list st);
 }

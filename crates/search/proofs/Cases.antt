@@ -2,7 +2,7 @@
 -- They guard the definitions. Assumes nothing.
 use mathlib.Core.Path.{_≡_, refl}
 use mathlib.Core.List.{List, [], _∷_}
-use lib.ListN.{length, getD, replicate}
+use lib.ListN.{getD, replicate}
 use Prim.Native.Nat.{ℕ, zero, suc, _+_, _-_, _*_, _^_}
 use Rattle.whole.specs.Half.{Half, lower, upper}
 use Rattle.search.specs.Machine.{Stop, stop, finished, spent, full, drive, trace}
@@ -27,10 +27,6 @@ abbrev line-half : Half → (s k : ℕ) → List ℕ
 line-half lower s k = cell (suc s) (2 * k)
 line-half upper s k = cell (suc s) (2 * k + 1)
 
-half-width : (h : Half) (s k : ℕ) → length (line-half h s k) ≡ 2
-half-width lower s k = refl
-half-width upper s k = refl
-
 -- 01, E: depth 2.
 abbrev line : Slots ℕ
 line = record {
@@ -42,7 +38,6 @@ line = record {
   place = λ n. n;
   look = λ n. let s = getD n 0 0 in let k = getD n 1 0 in line-look (2 * k - 2 ^ s) (2 ^ s - (2 * k + 2)) (2 - s);
   half = λ h c n. line-half h (getD n 0 0) (getD n 1 0);
-  half-width = λ h c n e. half-width h (getD n 0 0) (getD n 1 0);
 }
 
 abbrev root : States (slots line)

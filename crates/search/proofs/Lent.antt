@@ -11,7 +11,7 @@ use Rattle.search.specs.Lists.{Both}
 use Rattle.search.specs.Machine.{go}
 use Rattle.search.specs.Search.{Look, is-dropped, is-kept, is-cut, Search, States, state, entry, become, visit, turn, turn-top, due, searching, run}
 use Rattle.search.specs.Counts.{Measured}
-use Rattle.search.specs.Lent.{slot, stack, Slots, slots, Lent, memory, held, in-slot, given-up, lent-become, lent-top, lent, used, Stacked, Slots-enough, Enough, Holds, Lent-runs}
+use Rattle.search.specs.Lent.{slot, stack, Slots, slots, Lent, memory, held, in-slot, given-up, lent-become, lent-top, lent, used, Stacked, Slots-enough, Enough, Holds, Lent-runs, HalvesWide}
 use Rattle.search.proofs.Lists.{both-self}
 use Rattle.search.proofs.Machine.{Simulates, drive-in-step, go-waits}
 use Rattle.search.proofs.Search.{kept-go, Closed, visit-keeps, run-keeps}
@@ -78,7 +78,7 @@ module _ {A : Type 0} (K : Slots A) where
           record { in-use = rw (take-suc-set (f .list) (f .kept) (entry (K .place top) m (suc (f .visits))) b); places = simp length-set l; fits = omega arith }
       from (is-cut c) q = record { in-use = refl; places = l; fits = k }
 
-module _ {A : Type 0} (K : Slots A) (left : List A → ℕ) (M : Measured (slots K) left) (depth : ℕ) where
+module _ {A : Type 0} (K : Slots A) (left : List A → ℕ) (W : HalvesWide K) (M : Measured (slots K) left) (depth : ℕ) where
   -- A visit makes of the slots what a visit of the search makes of the waiting cells, and the store stays as long as it is.
   stack-top : (c : ℕ) (f : Lent A (K .Place)) → f .waiting ≡ c → Stacked left depth (stack (K .width) c (f .store)) → suc depth * K .width ≤ length (f .store)
       → (stack (K .width) (lent-top K c f .waiting) (lent-top K c f .store) ≡ visit (slots K) (state-of K c (used f)) .waiting) × (length (lent-top K c f .store) ≡ length (f .store))
@@ -101,7 +101,7 @@ module _ {A : Type 0} (K : Slots A) (left : List A → ℕ) (M : Measured (slots
           (stack-below w p (replicate w (K .blank)) (f .store) e below, slot-length w p (replicate w (K .blank)) (f .store) e below)
 
       half-fits : suc p * w ≤ length (f .store) → (h : Half) (c : K .Cut) → length (K .half h c top) ≡ w
-      half-fits below h c = K .half-width h c top (simp (length-take, length-drop) (omega arith))
+      half-fits below h c = W h c top (simp (length-take, length-drop) (omega arith))
 
       from : left top + p ≤ depth → suc p * w ≤ length (f .store) → (look : Look (K .Drop) (K .Cut)) → K .look top ≡ look
           → (stack w (lent-become K p f look .waiting) (lent-become K p f look .store) ≡ become (slots K) top (state-of K p (used f)) look .waiting)
@@ -145,4 +145,4 @@ module _ {A : Type 0} (K : Slots A) (left : List A → ℕ) (M : Measured (slots
     enough-visit f h t = lent-simulates .visits f (held K f) (h, refl) t .0
 
 pub lent-runs : Lent-runs
-lent-runs A K left M depth room b f h = drive-in-step (lent-simulates K left M depth room) b f (held K f) (h, refl)
+lent-runs A K left W M depth room b f h = drive-in-step (lent-simulates K left W M depth room) b f (held K f) (h, refl)

@@ -8,3 +8,4 @@ pub mod Slots
 pub mod Lent
 pub mod Cases
 pub mod Continued
+pub mod Calls

@@ -6,8 +6,8 @@ use mathlib.Core.List.{List, [], _∷_, _++_}
 use lib.ListN.{length, take, drop, set, replicate}
 use Prim.Native.Nat.{ℕ, zero, suc, _+_, _-_, _*_, _≤_}
 use Rattle.whole.specs.Half.{Half, lower, upper}
-use Rattle.search.specs.Machine.{Machine, BothStop, drive, trace}
-use Rattle.search.specs.Search.{Look, is-dropped, is-kept, is-cut, Search, Entry, States, Visit, state, entry, turn, due, run, log}
+use Rattle.search.specs.Machine.{Machine, Stop, BothStop, drive, trace}
+use Rattle.search.specs.Search.{Look, is-dropped, is-kept, is-cut, Search, Entry, States, Visit, Log, state, entry, turn, due, run, log}
 use Rattle.search.specs.Counts.{Measured}
 
 -- `x` written over `st` from the place `at`.
@@ -34,7 +34,10 @@ pub record Slots (A : Type 0) : Type 1 where
   pub place : List A → Place
   pub look : List A → Look Drop Cut
   pub half : Half → Cut → List A → List A
-  pub half-width : (h : Half) (c : Cut) (n : List A) → length n ≡ width → length (half h c n) ≡ width
+
+-- The halves of a slot are slots: they have its width.
+abbrev pub HalvesWide : {A : Type 0} → Slots A → Type 0
+HalvesWide {A} K = (h : Half) (c : K .Cut) (n : List A) → length n ≡ K .width → length (K .half h c n) ≡ K .width
 
 abbrev pub slots : {A : Type 0} → Slots A → Search
 slots {A} K = record { Node = List A; Place = K .Place; Drop = K .Drop; Cut = K .Cut; place = K .place; look = K .look; half = K .half }
@@ -112,13 +115,29 @@ module _ {A : Type 0} (K : Slots A) (left : List A → ℕ) (depth room : ℕ) w
 
 -- A run in lent memory that is long enough runs in step with the search: the same answer, the same visits, and the memory holds the search's state.
 abbrev pub Lent-runs : Type 1
-Lent-runs = (A : Type 0) (K : Slots A) (left : List A → ℕ) → Measured (slots K) left → (depth room budget : ℕ) (f : Lent A (K .Place)) → Enough K left depth room f
+Lent-runs = (A : Type 0) (K : Slots A) (left : List A → ℕ) → HalvesWide K → Measured (slots K) left
+    → (depth room budget : ℕ) (f : Lent A (K .Place)) → Enough K left depth room f
     → BothStop (Holds K left depth room) (λ y z. y ≡ z) (drive (lent K) budget room f) (trace (lent K) budget room f)
     (run (slots K) budget room (held K f)) (log (slots K) budget room (held K f))
 
 -- What is in use of lent memory: all of it but the places of the list past the kept count.
 abbrev pub used : {A Place : Type 0} → Lent A Place → Lent A Place
 used f = memory (f .store) (take (f .kept) (f .list)) (f .waiting) (f .kept) (f .visits) (f .dropped)
+
+module _ {A : Type 0} (K : Slots A) where
+  -- One call, with the list that the memory has: where it stops, and the visits that it makes.
+  abbrev pub called : (budget : ℕ) → Lent A (K .Place) → Stop (Lent A (K .Place))
+  called budget f = drive (lent K) budget (length (f .list)) f
+
+  abbrev pub visits-made : (budget : ℕ) → Lent A (K .Place) → Log (slots K)
+  visits-made budget f = trace (lent K) budget (length (f .list)) f
+
+-- 01, Runs: lent memory as a call finds it. As a start left it, with the root in slot 0 of `store`, any list, and the counts 1, 0, 0, 0; or as an earlier
+-- call did: "A run may be continued from its state, .. with its stores as it left them, also with a longer list that begins with the same entries".
+pub data Begun {A : Type 0} (K : Slots A) (store : List A) : Lent A (K .Place) → Type 0 where
+  at-start : (list : List (Entry (K .Place))) → Begun K store (memory store list 1 0 0 0)
+  continued : {f : Lent A (K .Place)} → Begun K store f → (budget : ℕ) (next : Lent A (K .Place)) → used (called K budget f .state) ≡ used next
+      → length (f .list) ≤ length (next .list) → Begun K store next
 
 -- `g` was reached from `f` by calls, each with what was in use when the one before stopped and a list that is no shorter.
 pub data LentCalled {A : Type 0} (K : Slots A) (f : Lent A (K .Place)) : Lent A (K .Place) → Type 0 where

@@ -1,20 +1,17 @@
 -- Lists built place by place: their lengths and their numbers; the numbers of m patches in turn, polynomial by polynomial. Assumes nothing.
-use mathlib.Core.Path.{_≡_, refl, sym, _∙_, ap, ap₂, subst}
-use mathlib.Core.List.{List, [], _∷_, _++_}
+use mathlib.Core.Path.{_≡_, refl, _∙_, ap, ap₂}
+use mathlib.Core.List.{List}
 use Prim.Native.Nat.{ℕ, zero, suc, _+_, _*_, _/_, _%_, _≤_, _<_}
 use native.Mathlib.Omega.{arith}
 use native.Mathlib.Nat as NatL
-use lib.IntN.{ℤ, pos}
-use lib.ListN.{length, getD, drop, length-append}
-use lib.Seq.{getD-drop, getD-append-add}
+use lib.IntN.{ℤ}
+use lib.ListN.{length, length-append}
 use Rattle.whole.specs.Half.{Half}
-use Rattle.bernstein.specs.Three.{Direction, Upto}
+use Rattle.bernstein.specs.Three.{Direction}
 use Rattle.bernstein.specs.Numbers.{Patch, Index, unit, half-box}
-use Rattle.bernstein.specs.Places.{place, size, index, patch, Filled}
-use Rattle.bernstein.proofs.Indices.{index-place}
-use Rattle.bernstein.proofs.Places.{place-below}
+use Rattle.bernstein.specs.Frames.{Lawful}
 use Rattle.system.specs.declared.head.Head.{Head}
-use Rattle.system.specs.Heads.{degrees, places, width}
+use Rattle.system.specs.Heads.{frame, places, width}
 use Rattle.slots.specs.Slots.{at, build, in-turn, polynomial, numbers, box-numbers, box-in, half-numbers, half-slot, start-numbers, unit-slot}
 
 pub build-length : (n : ℕ) (f : ℕ → ℤ) → length (build n f) ≡ n
@@ -43,17 +40,21 @@ unfolding in-turn
 in-turn-length h p = build-length (places h) _
 
 -- polynomial t of the numbers in turn is patch t
-pub in-turn-filled : (h : Head) (p : ℕ → Patch) (t : ℕ) → t < h .m → Filled (degrees h) (p t) (in-turn h p) (t * size (degrees h))
+pub in-turn-filled : (h : Head) → Lawful (frame h) → (p : ℕ → Patch) (t : ℕ) → t < h .m
+    → (j : Index) → frame h .Inside j → polynomial h (in-turn h p) t j ≡ p t j
 unfolding in-turn places
-in-turn-filled h p t l = record {
-  filled = λ j u.
-      let n = degrees h in
-      let b : place n j < size n = place-below n j u in
-      let e : t * size n + place n j < h .m * size n = row-lt t (h .m) (size n) (place n j) l b in
-      build-at (h .m * size n) (λ x. p (x / size n) (index n (x % size n))) (t * size n + place n j) e
-      ∙ ap₂ (λ (x y : ℕ). p x (index n y)) (row-of (size n) t (place n j) b) (rest-of (size n) t (place n j) b)
-      ∙ ap (p t) (index-place n j u);
-}
+in-turn-filled h L p t l j u =
+    let F = frame h in
+    let b : frame h .place j < frame h .size = L .place-below j u in
+    build-at (h .m * F .size) (λ x. p (x / F .size) (F .index (x % F .size))) (t * F .size + F .place j) (row-lt t (h .m) (F .size) (F .place j) l b)
+    ∙ ap₂ (λ (x y : ℕ). p x (F .index y)) (row-of (F .size) t (F .place j) b) (rest-of (F .size) t (F .place j) b)
+    ∙ ap (p t) (L .index-place j u)
+
+-- and what holds of every number holds of every number of polynomial t
+pub number-of : (h : Head) → Lawful (frame h) → (xs : List ℤ) (t : ℕ) → t < h .m → (P : ℤ → Type 0) → ((i : ℕ) → i < places h → P (at xs i))
+    → (j : Index) → frame h .Inside j → P (polynomial h xs t j)
+unfolding places
+number-of h L xs t l P f j u = f (t * frame h .size + frame h .place j) (row-lt t (h .m) (frame h .size) (frame h .place j) l (L .place-below j u))
 
 pub half-slot-length : (h : Head) (e : Half) (r : Direction) (l : List ℤ) → length (half-slot h e r l) ≡ width h
 unfolding half-slot

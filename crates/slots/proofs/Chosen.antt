@@ -1,5 +1,5 @@
 -- What the direction rule says: a direction that is chosen is below its depth; and a box is cut only in the direction chosen, if it can be cut. Assumes nothing.
-use mathlib.Core.Path.{_≡_, refl, sym, _∙_, ap, subst}
+use mathlib.Core.Path.{_≡_, refl, sym, subst}
 use mathlib.Core.Bool.{Bool, true, false, cond, _&&_}
 use mathlib.Core.List.{List}
 use Prim.Native.Nat.{ℕ, _<_}
@@ -7,16 +7,15 @@ use native.Mathlib.Omega.{arith}
 use lib.Dec.{T, ltb, ltb→lt}
 use lib.IntN.{ℤ}
 use Rattle.bernstein.specs.Three.{_!_}
-use Rattle.bernstein.specs.Places.{size}
 use Rattle.system.specs.declared.head.Head.{Head}
 use Rattle.boxes.specs.declared.half.Direction.{Direction}
 use Rattle.boxes.specs.declared.visit.Outcome.{Outcome}
-use Rattle.system.specs.Heads.{degrees, depths}
+use Rattle.system.specs.Heads.{depths, frame}
 use Rattle.boxes.specs.Boxes.{direction}
 use Rattle.slots.specs.Slots.{numbers}
 use Rattle.slots.specs.declared.Decision.{Decision}
 use Rattle.slots.specs.declared.Choice.{Choice}
-use Rattle.slots.specs.Rules.{cuts-in, below-depth, better, chosen, can-cut, by-choice, by-decision, decided, looked}
+use Rattle.slots.specs.Rules.{cuts-in, below-depth, better, chosen, decided, able, by-choice, looked-by, looked}
 
 -- what a choice promises of its direction
 abbrev Fits : (Direction → Type 0) → Choice → Type 0
@@ -43,29 +42,30 @@ module _ (h : Head) (l : List ℤ) where
       better-fits (better h l (better h l Choice.Nowhere Direction.First) Direction.Second) Direction.Third
       (better-fits (better h l Choice.Nowhere Direction.First) Direction.Second (better-fits Choice.Nowhere Direction.First tt))
 
-  -- ---- a box that is cut
-  pub record CutIn (r : Direction) : Type 0 where
+  -- ---- a box that is cut, by any decision and where it is able to be cut
+  pub record CutIn (able : Direction → Bool) (r : Direction) : Type 0 where
     pub chose : chosen h l ≡ Choice.Along r
     pub below : cuts-in l r < depths h ! direction r
-    pub can : can-cut h (direction r) l ≡ true
+    pub can : able r ≡ true
 
-  by-cut : (c : Choice) → chosen h l ≡ c → (r : Direction) → by-choice h l c ≡ Outcome.Cut r → CutIn r
-  by-cut Choice.Nowhere f r e = let z : _≡_ {A = ℕ} 0 1 = cc in absurd (omega arith)
-  by-cut (Choice.Along q) f r e = from (can-cut h (direction q) l) refl e
-    where
-      told : (q : Direction) → chosen h l ≡ Choice.Along q → below-depth h l q ≡ true
-      told q f = subst (Fits (λ q. below-depth h l q ≡ true)) f chosen-fits
+  module _ (able : Direction → Bool) (r : Direction) where
+    by-cut : (c : Choice) → chosen h l ≡ c → by-choice able c ≡ Outcome.Cut r → CutIn able r
+    by-cut Choice.Nowhere f e = let z : _≡_ {A = ℕ} 0 1 = cc in absurd (omega arith)
+    by-cut (Choice.Along q) f e = from (able q) refl e
+      where
+        told : (q : Direction) → chosen h l ≡ Choice.Along q → below-depth h l q ≡ true
+        told q f = subst (Fits (λ q. below-depth h l q ≡ true)) f chosen-fits
 
-      from : (b : Bool) → can-cut h (direction q) l ≡ b → cond b (Outcome.Cut q) (Outcome.Kept 2) ≡ Outcome.Cut r → CutIn r
-      from false g e = let z : _≡_ {A = ℕ} 0 1 = cc in absurd (omega arith)
-      from true g e =
-          let same : q ≡ r = cc in
-          subst CutIn same (record { chose = f; below = ltb→lt (cuts-in l q) (depths h ! direction q) (subst T (sym (told q f)) tt); can = g })
+        from : (b : Bool) → able q ≡ b → cond b (Outcome.Cut q) (Outcome.Kept 2) ≡ Outcome.Cut r → CutIn able r
+        from false g e = let z : _≡_ {A = ℕ} 0 1 = cc in absurd (omega arith)
+        from true g e =
+            let same : q ≡ r = cc in
+            subst (CutIn able) same (record { chose = f; below = ltb→lt (cuts-in l q) (depths h ! direction q) (subst T (sym (told q f)) tt); can = g })
 
-  pub cut-in : (r : Direction) → looked h l ≡ Outcome.Cut r → CutIn r
+    pub cut-by : (d : Decision) → looked-by h l d able ≡ Outcome.Cut r → CutIn able r
+    cut-by (Decision.By p s) e = let z : _≡_ {A = ℕ} 0 1 = cc in absurd (omega arith)
+    cut-by Decision.Open e = by-cut (chosen h l) refl e
+
+  pub cut-in : (r : Direction) → looked h l ≡ Outcome.Cut r → CutIn (able h l) r
   unfolding looked
-  cut-in r e = from (decided (h .m) (size (degrees h)) 1 (numbers l)) e
-    where
-      from : (d : Decision) → by-decision h l d ≡ Outcome.Cut r → CutIn r
-      from (Decision.By p s) e = let z : _≡_ {A = ℕ} 0 1 = cc in absurd (omega arith)
-      from Decision.Open e = by-cut (chosen h l) refl r e
+  cut-in r e = cut-by (able h l) r (decided (h .m) (frame h .size) 1 (numbers l)) e

@@ -15,10 +15,8 @@ use Rattle.whole.specs.Half.{Half, lower, upper}
 use Rattle.whole.specs.Size.{Below}
 use Rattle.whole.proofs.Parts.{by-lt}
 use Rattle.bernstein.specs.Three.{Direction, _!_}
-use Rattle.bernstein.specs.Numbers
 use Rattle.bernstein.specs.Numbers.{half-box, half-line}
-use Rattle.bernstein.specs.Places.{stride}
-use Rattle.bernstein.proofs.Blocks.{blocks}
+use Rattle.bernstein.specs.Places.{stride, blocks}
 use Rattle.bernstein.proofs.Lines.{half-cong}
 use Rattle.system.specs.declared.head.Head.{Head}
 use Rattle.system.specs.Heads.{degrees, places, width, Limits}

@@ -1,5 +1,5 @@
 -- What the sign test says: a polynomial that decides has all its numbers of that strict sign. Assumes nothing.
-use mathlib.Core.Path.{_≡_, refl, sym, _∙_, ap, subst}
+use mathlib.Core.Path.{_≡_, refl, sym, _∙_, subst}
 use mathlib.Core.Bool.{Bool, true, false, cond, _&&_}
 use mathlib.Core.List.{List, [], _∷_}
 use mathlib.Core.Logic.{_⊎_, inl, inr}
@@ -8,23 +8,22 @@ use native.Mathlib.Omega.{arith}
 use native.Mathlib.Nat as NatL
 use lib.Dec.{T}
 use lib.IntN.{ℤ, pos}
-use lib.ListN.{length, getD, take, drop, length-take, length-drop}
+use lib.ListN.{length, take, drop, length-take, length-drop}
 use lib.Seq.{getD-take, getD-drop, drop-drop}
-use lib.Signed.{ltZ}
-use Rattle.bernstein.specs.Three.{Upto}
-use Rattle.bernstein.specs.Points.{Has, All-have}
+use Rattle.bernstein.specs.Numbers.{Index}
+use Rattle.bernstein.specs.Points.{Has}
 use Rattle.bernstein.specs.Points
-use Rattle.bernstein.specs.Places.{place, size}
-use Rattle.bernstein.proofs.Places.{place-below}
+use Rattle.bernstein.specs.Frames.{Lawful}
 use Rattle.system.specs.declared.head.Head.{Head}
+use Rattle.boxes.specs.declared.half.Direction.{Direction}
 use Rattle.boxes.specs.declared.visit.Sign.{Sign}
 use Rattle.boxes.specs.declared.visit.Sign.the-variants.{Above, Below}
 use Rattle.boxes.specs.declared.visit.Outcome.{Outcome}
-use Rattle.system.specs.Heads.{degrees, places}
+use Rattle.system.specs.Heads.{frame, places}
 use Rattle.slots.specs.declared.Decision.{Decision}
 use Rattle.slots.specs.declared.Choice.{Choice}
 use Rattle.slots.specs.Slots.{at, polynomial, numbers}
-use Rattle.slots.specs.Rules.{every, has, signed, decided, by-choice, by-decision, chosen, can-cut, looked}
+use Rattle.slots.specs.Rules.{every, has, signed, decided, by-choice, chosen, able, looked-by, looked}
 
 -- ---- every
 and-both : (a b : Bool) → (a && b) ≡ true → (a ≡ true) × (b ≡ true)
@@ -92,41 +91,40 @@ has-sign : (s : Sign) (z : ℤ) → has s z ≡ true → Has (sign s) z
 has-sign Above z e = record { lt = subst T (sym e) tt }
 has-sign Below z e = record { lt = subst T (sym e) tt }
 
-pub signed-patch : (h : Head) (xs : List ℤ) (t : ℕ) (s : Sign) → places h ≤ length xs → t < h .m
-    → every (has s) (take (size (degrees h)) (drop (t * size (degrees h)) xs)) ≡ true → All-have (sign s) (degrees h) (polynomial h xs t)
+pub signed-patch : (h : Head) → Lawful (frame h) → (xs : List ℤ) (t : ℕ) (s : Sign) → places h ≤ length xs → t < h .m
+    → every (has s) (take (frame h .size) (drop (t * frame h .size) xs)) ≡ true → (j : Index) → frame h .Inside j → Has (sign s) (polynomial h xs t j)
 unfolding places
-signed-patch h xs t s long l e = record {
-  all-have = λ j u.
-      let n = degrees h in
-      let b : place n j < size n = place-below n j u in
-      let a : suc t * size n ≤ h .m * size n = NatL.mul-le-mul-right (size n) l in
-      let ys = drop (t * size n) xs in
-      let c : length (take (size n) ys) ≡ size n = simp (length-take, length-drop) (omega arith) in
-      has-sign s (at xs (t * size n + place n j)) (subst (λ (z : ℤ). has s z ≡ true) (getD-take (size n) ys (place n j) (pos 0) b ∙ getD-drop (t * size n) xs (place n j) (pos 0))
-      (every-at (has s) (take (size n) ys) e (place n j) (rw c b)));
-}
+signed-patch h L xs t s long l e j u =
+    let S = frame h .size in
+    let i = frame h .place j in
+    let b : frame h .place j < frame h .size = L .place-below j u in
+    let a : suc t * frame h .size ≤ h .m * frame h .size = NatL.mul-le-mul-right (frame h .size) l in
+    let ys = drop (t * S) xs in
+    let c : length (take (frame h .size) (drop (t * frame h .size) xs)) ≡ frame h .size = simp (length-take, length-drop) (omega arith) in
+    has-sign s (at xs (t * S + i)) (subst (λ (z : ℤ). has s z ≡ true) (getD-take S ys i (pos 0) b ∙ getD-drop (t * S) xs i (pos 0))
+    (every-at (has s) (take S ys) e i (rw c b)))
 
 -- ---- the outcome of a visit
 pub record DroppedBy (h : Head) (l : List ℤ) (q : ℕ) (s : Sign) : Type 0 where
   pub which : ℕ
   pub below : which < h .m
   pub number : q ≡ 1 + which
-  pub signs : All-have (sign s) (degrees h) (polynomial h (numbers l) which)
+  pub signs : (j : Index) → frame h .Inside j → Has (sign s) (polynomial h (numbers l) which j)
 
-by-drop : (h : Head) (l : List ℤ) (d : Decision) (q : ℕ) (s : Sign) → by-decision h l d ≡ Outcome.Dropped q s → d ≡ Decision.By q s
-by-drop h l (Decision.By p r) q s e = cc
-by-drop h l Decision.Open q s e = absurd (by-choice-not (chosen h l) e)
+pub by-drop : (h : Head) (l : List ℤ) (able : Direction → Bool) (d : Decision) (q : ℕ) (s : Sign) → looked-by h l d able ≡ Outcome.Dropped q s → d ≡ Decision.By q s
+by-drop h l able (Decision.By p r) q s e = cc
+by-drop h l able Decision.Open q s e = absurd (by-choice-not (chosen h l) e)
   where
-    kept-or-cut : (b : Bool) (r : Rattle.boxes.specs.declared.half.Direction.Direction) → cond b (Outcome.Cut r) (Outcome.Kept 2) ≡ Outcome.Dropped q s → ⊥
+    kept-or-cut : (b : Bool) (r : Direction) → cond b (Outcome.Cut r) (Outcome.Kept 2) ≡ Outcome.Dropped q s → ⊥
     kept-or-cut true r e = let z : _≡_ {A = ℕ} 0 1 = cc in omega arith
     kept-or-cut false r e = let z : _≡_ {A = ℕ} 0 1 = cc in omega arith
 
-    by-choice-not : (c : Choice) → by-choice h l c ≡ Outcome.Dropped q s → ⊥
+    by-choice-not : (c : Choice) → by-choice able c ≡ Outcome.Dropped q s → ⊥
     by-choice-not Choice.Nowhere e = let z : _≡_ {A = ℕ} 0 1 = cc in omega arith
-    by-choice-not (Choice.Along r) e = kept-or-cut (can-cut h (Rattle.boxes.specs.Boxes.direction r) l) r e
+    by-choice-not (Choice.Along r) e = kept-or-cut (able r) r e
 
-pub dropped-by : (h : Head) (l : List ℤ) (q : ℕ) (s : Sign) → places h ≤ length (numbers l) → looked h l ≡ Outcome.Dropped q s → DroppedBy h l q s
+pub dropped-by : (h : Head) → Lawful (frame h) → (l : List ℤ) (q : ℕ) (s : Sign) → places h ≤ length (numbers l) → looked h l ≡ Outcome.Dropped q s → DroppedBy h l q s
 unfolding looked
-dropped-by h l q s long e =
-    let d = decided-by (h .m) (size (degrees h)) 1 (numbers l) q s (by-drop h l (decided (h .m) (size (degrees h)) 1 (numbers l)) q s e) in
-    record { which = d .which; below = d .below; number = d .number; signs = signed-patch h (numbers l) (d .which) s long (d .below) (d .signs) }
+dropped-by h L l q s long e =
+    let d = decided-by (h .m) (frame h .size) 1 (numbers l) q s (by-drop h l (able h l) (decided (h .m) (frame h .size) 1 (numbers l)) q s e) in
+    record { which = d .which; below = d .below; number = d .number; signs = signed-patch h L (numbers l) (d .which) s long (d .below) (d .signs) }

@@ -15,13 +15,12 @@ use Rattle.system.specs.declared.head.Head.{Head}
 use Rattle.boxes.specs.declared.half.Direction.{Direction}
 use Rattle.boxes.specs.declared.visit.Outcome.{Outcome}
 use Rattle.system.specs.Heads.{degrees, places}
-use Rattle.boxes.specs.Boxes.{direction}
 use Rattle.lines.specs.Sides.{Side-is}
 use Rattle.lines.specs.declared.sides.Side.{Side}
 use Rattle.slots.specs.declared.Decision.{Decision}
 use Rattle.slots.specs.declared.Choice.{Choice}
 use Rattle.slots.specs.Slots.{numbers, SlotFits}
-use Rattle.slots.specs.Rules.{signed, decided, cuts-in, below-depth, better, chosen, can-cut, by-choice, by-decision, looked}
+use Rattle.slots.specs.Rules.{signed, decided, cuts-in, below-depth, better, chosen, able, by-choice, looked-by, looked}
 use Rattle.slots.proofs.Tests.{by-side, signed-side}
 
 -- ---- the sign: polynomials 1 to p are mixed, and the next one starts at start
@@ -83,16 +82,16 @@ module _ (h : Head) (s : List ℤ) (r : Direction) where
 
 -- ---- the outcome by a choice, and by a decision
 module _ (h : Head) (s : List ℤ) where
-  pub nowhere : {c : Choice} → c ≡ chosen h s → c ≡ Choice.Nowhere → Outcome.Kept 1 ≡ by-choice h s (chosen h s)
+  pub nowhere : {c : Choice} → c ≡ chosen h s → c ≡ Choice.Nowhere → Outcome.Kept 1 ≡ by-choice (able h s) (chosen h s)
   nowhere e n = rw (← e, n) refl
 
-  pub along : {c : Choice} {r : Direction} {b : Bool} (t : Bool) → c ≡ chosen h s → c ≡ Choice.Along r → b ≡ can-cut h (direction r) s → b ≡ t
-      → cond t (Outcome.Cut r) (Outcome.Kept 2) ≡ by-choice h s (chosen h s)
+  pub along : {c : Choice} {r : Direction} {b : Bool} (t : Bool) → c ≡ chosen h s → c ≡ Choice.Along r → b ≡ able h s r → b ≡ t
+      → cond t (Outcome.Cut r) (Outcome.Kept 2) ≡ by-choice (able h s) (chosen h s)
   along {r} t e n f g = rw (← e, n, ← f, g) refl
 
-  pub looked-by : {d : Decision} → d ≡ decided (h .m) (size (degrees h)) 1 (numbers s) → by-decision h s d ≡ looked h s
+  pub decision-looks : {d : Decision} → d ≡ decided (h .m) (size (degrees h)) 1 (numbers s) → looked-by h s d (able h s) ≡ looked h s
   unfolding looked
-  looked-by e = ap (by-decision h s) e
+  decision-looks e = ap (λ (d : Decision). looked-by h s d (able h s)) e
 
 -- ---- 2 ^ (62 - n) as a shift
 pub top-power : (n : ℕ) → 2 ^ (62 - n) < 2 ^ 63

@@ -12,17 +12,17 @@ use lib.ListN.{length, take, length-append}
 use lib.Seq.{ext-getD, getD-take, getD-drop, getD-append-add, length-take-le}
 use Rattle.whole.specs.Size.{Below}
 use Rattle.bernstein.specs.Three.{Direction, first, third, _!_, replace, Upto}
-use Rattle.bernstein.specs.Numbers.{Index, Patch, after, formula, line, unit}
-use Rattle.bernstein.specs.Places.{size, index, stride}
-use Rattle.bernstein.proofs.Blocks.{blocks}
+use Rattle.bernstein.specs.Numbers.{Index, Patch, after, formula, line, unit, spread}
+use Rattle.bernstein.specs.Places.{size, index, stride, blocks}
 use Rattle.bernstein.proofs.Starts.{start-cuttable}
 use Rattle.bernstein.proofs.Lines.{after-cong}
 use Rattle.bernstein.proofs.Nested.{upto-replace}
-use Rattle.bernstein.proofs.Spreads.{spread, stage, formula-spread}
+use Rattle.bernstein.proofs.Spreads.{stage, formula-spread}
 use Rattle.system.specs.declared.head.Head.{Head}
 use Rattle.boxes.specs.declared.half.Box.{Box}
 use Rattle.boxes.specs.Boxes.{as-box, from-box}
 use Rattle.system.specs.Heads.{degrees, places, width, Limits}
+use Rattle.system.proofs.Heads.{lawful}
 use Rattle.lines.specs.Lines.{In-blocks, only, Lines-spread, Ready-blocks}
 use Rattle.lines.proofs.Rooms.{only-room, off-blocks}
 use Rattle.slots.specs.Slots.{at, polynomial, numbers, in-turn, box-numbers, unit-slot}
@@ -89,13 +89,13 @@ module _ (h : Head) (cs : List ℤ) where
   spread-same : (r : Direction) (p q : Patch) → ((j : Index) → Upto j (degrees h) → p j ≡ q j) → (j : Index) → Upto j (degrees h) → spread (degrees h) r p j ≡ spread (degrees h) r q j
   spread-same r p q same j u = after-cong (degrees h ! r) (line r p j) (line r q j) (λ i l. same (replace r i j) (upto-replace r i l u)) (degrees h ! r) (j ! r) (u .upto r)
 
-  pub spread-on : (r : Direction) (old new : List ℤ) → old ≡ box-numbers unit ++ staged r
+  pub spread-on : Limits h → (r : Direction) (old new : List ℤ) → old ≡ box-numbers unit ++ staged r
       → new ≡ take 6 old ++ in-turn h (λ t. spread (degrees h) r (polynomial h (numbers old) t)) → new ≡ box-numbers unit ++ in-turn h (λ t. spread (degrees h) r (stage (degrees h) (polynomial h cs t) r))
-  spread-on r old new e g =
+  spread-on m r old new e g =
       g ∙ ap (λ (s : List ℤ). take 6 s ++ in-turn h (λ t. spread (degrees h) r (polynomial h (numbers s) t))) e
       ∙ ap (λ (s : List ℤ). box-numbers unit ++ s)
       (in-turn-same (λ t. spread (degrees h) r (polynomial h (staged r) t)) (λ t. spread (degrees h) r (stage (degrees h) (polynomial h cs t) r))
-      (λ t l j u. spread-same r (polynomial h (staged r) t) (stage (degrees h) (polynomial h cs t) r) (in-turn-filled h (λ t. stage (degrees h) (polynomial h cs t) r) t l .filled) j u))
+      (λ t l j u. spread-same r (polynomial h (staged r) t) (stage (degrees h) (polynomial h cs t) r) (in-turn-filled h (lawful h m) (λ t. stage (degrees h) (polynomial h cs t) r) t l) j u))
 
   pub start-is : (s : List ℤ) → s ≡ box-numbers unit ++ in-turn h (λ t. spread (degrees h) first (stage (degrees h) (polynomial h cs t) first)) → s ≡ unit-slot h cs
   unfolding unit-slot

@@ -13,11 +13,10 @@ use Rattle.whole.specs.Sums.{choose}
 use Rattle.whole.proofs.Choose.{choose-self}
 use Rattle.whole.proofs.Parts.{by-lt, set-case}
 use Rattle.whole.proofs.Sizes.{natAbs-*}
-use Rattle.bernstein.specs.Numbers.{Patch, scale, weight}
+use Rattle.bernstein.specs.Numbers.{Patch, scale, weight, weighted}
 use Rattle.bernstein.specs.Places.{size, index}
 use Rattle.bernstein.proofs.Tests.{all, all-at}
 use Rattle.bernstein.proofs.Starts.{factor-le}
-use Rattle.bernstein.proofs.Boxes.{weighted}
 use Rattle.system.specs.declared.head.Head.{Head}
 use Rattle.system.specs.Heads.{degrees, places, width}
 use Rattle.slots.specs.Slots.{at, polynomial, in-turn}

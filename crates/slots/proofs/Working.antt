@@ -8,8 +8,8 @@ use native.Mathlib.Nat as NatL
 use lib.IntN.{ℤ}
 use Rattle.bernstein.specs.Three.{Direction, _!_, replace, Upto}
 use Rattle.bernstein.specs.Numbers.{Index, line}
-use Rattle.bernstein.specs.Places.{place, size, index, stride}
-use Rattle.bernstein.proofs.Blocks.{blocks, block, offset, line-start, size-blocks, block-below, offset-below, line-place}
+use Rattle.bernstein.specs.Places.{place, size, index, stride, blocks}
+use Rattle.bernstein.proofs.Blocks.{block, offset, line-start, size-blocks, block-below, offset-below, line-place}
 use Rattle.bernstein.proofs.Indices.{place-index, index-upto}
 use Rattle.bernstein.proofs.Places.{place-below, place-steps}
 use Rattle.bernstein.proofs.Nested.{upto-replace}

@@ -1,5 +1,5 @@
 -- What the rules say of a slot: the steps 1 to 4 of 01's "One visit". Definitions only.
-use mathlib.Core.Bool.{Bool, true, false, cond, _&&_}
+use mathlib.Core.Bool.{Bool, true, cond, _&&_}
 use mathlib.Core.List.{List, [], _∷_}
 use Prim.Native.Nat.{ℕ, zero, suc, _-_, _^_}
 use lib.Dec.{ltb, leb}
@@ -8,13 +8,12 @@ use lib.ListN.{take, drop}
 use lib.Signed.{ltZ}
 use Rattle.bernstein.specs.Three
 use Rattle.bernstein.specs.Three.{_!_}
-use Rattle.bernstein.specs.Places.{size}
 use Rattle.system.specs.declared.head.Head.{Head}
 use Rattle.boxes.specs.declared.half.Direction.{Direction}
 use Rattle.boxes.specs.declared.visit.Sign.{Sign}
 use Rattle.boxes.specs.declared.visit.Sign.the-variants.{Above, Below}
 use Rattle.boxes.specs.declared.visit.Outcome.{Outcome}
-use Rattle.system.specs.Heads.{degrees, depths}
+use Rattle.system.specs.Heads.{depths, frame}
 use Rattle.boxes.specs.Boxes.{direction}
 use Rattle.slots.specs.Slots.{box-in, numbers}
 use Rattle.slots.specs.declared.Decision.{Decision}
@@ -64,16 +63,19 @@ abbrev pub limit : ℕ → ℕ
 limit n = 2 ^ (62 - n) - 1
 
 abbrev pub can-cut : Head → Three.Direction → List ℤ → Bool
-can-cut h r l = every (within (limit (degrees h ! r))) (numbers l)
+can-cut h r l = every (within (limit (frame h .degree r))) (numbers l)
 
--- ---- the steps in order
-abbrev pub by-choice : Head → List ℤ → Choice → Outcome
-by-choice h l Choice.Nowhere = Outcome.Kept 1
-by-choice h l (Choice.Along r) = cond (can-cut h (direction r) l) (Outcome.Cut r) (Outcome.Kept 2)
+-- ---- the steps in order, by what is read of a slot: what its numbers decide, and along which directions it is able to be cut
+abbrev pub able : Head → List ℤ → Direction → Bool
+able h l r = can-cut h (direction r) l
 
-abbrev pub by-decision : Head → List ℤ → Decision → Outcome
-by-decision h l (Decision.By p s) = Outcome.Dropped p s
-by-decision h l Decision.Open = by-choice h l (chosen h l)
+abbrev pub by-choice : (Direction → Bool) → Choice → Outcome
+by-choice can Choice.Nowhere = Outcome.Kept 1
+by-choice can (Choice.Along r) = cond (can r) (Outcome.Cut r) (Outcome.Kept 2)
+
+abbrev pub looked-by : Head → List ℤ → Decision → (Direction → Bool) → Outcome
+looked-by h l (Decision.By p s) can = Outcome.Dropped p s
+looked-by h l Decision.Open can = by-choice can (chosen h l)
 
 unfoldable pub looked : Head → List ℤ → Outcome
-looked h l = by-decision h l (decided (h .m) (size (degrees h)) 1 (numbers l))
+looked h l = looked-by h l (decided (h .m) (frame h .size) 1 (numbers l)) (able h l)

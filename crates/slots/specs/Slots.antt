@@ -8,10 +8,9 @@ use lib.ListN.{length, getD, drop}
 use lib.Signed.{_≤ℤ_}
 use Rattle.whole.specs.Half.{Half}
 use Rattle.bernstein.specs.Three.{Direction, first, second, third, three, _!_}
-use Rattle.bernstein.specs.Numbers.{Patch, Span, span, Box, unit, half-box, formula, half-patch}
-use Rattle.bernstein.specs.Places.{size, index, patch, Held}
+use Rattle.bernstein.specs.Numbers.{Patch, Span, span, Box, unit, half-box}
 use Rattle.system.specs.declared.head.Head.{Head}
-use Rattle.system.specs.Heads.{degrees, depths, places, width, Limits}
+use Rattle.system.specs.Heads.{depths, frame, places, width, Limits}
 
 -- number i of a list
 abbrev pub at : List ℤ → ℕ → ℤ
@@ -46,26 +45,26 @@ build (suc n) f = f 0 ∷ build n (λ i. f (suc i))
 
 -- the patch of polynomial t, counted from 0, in numbers that stand in turn
 abbrev pub polynomial : Head → List ℤ → ℕ → Patch
-polynomial h xs t = patch (degrees h) xs (t * size (degrees h))
+polynomial h xs t j = at xs (t * frame h .size + frame h .place j)
 
 -- the numbers of m patches in turn
 unfoldable pub in-turn : Head → (ℕ → Patch) → List ℤ
-in-turn h p = build (places h) (λ x. p (x / size (degrees h)) (index (degrees h) (x % size (degrees h))))
+in-turn h p = build (places h) (λ x. p (x / frame h .size) (frame h .index (x % frame h .size)))
 
 -- every stored number is exact: polynomial t, with the coefficients a t, on the box of the slot
 pub record ExactSlot (h : Head) (a : ℕ → Patch) (l : List ℤ) : Type 0 where
-  pub exact-slot : (t : ℕ) → t < h .m → Held (degrees h) (box-in l) (a t) (numbers l) (t * size (degrees h))
+  pub exact-slot : (t : ℕ) → t < h .m → frame h .Exact (box-in l) (a t) (polynomial h (numbers l) t)
 
 -- ---- the halves of a slot in direction r: those of its box, and those of every polynomial's patch
 abbrev pub half-numbers : Head → Half → Direction → List ℤ → List ℤ
-half-numbers h e r xs = in-turn h (λ t. half-patch e (degrees h) r (polynomial h xs t))
+half-numbers h e r xs = in-turn h (λ t. frame h .half e r (polynomial h xs t))
 
 unfoldable pub half-slot : Head → Half → Direction → List ℤ → List ℤ
 half-slot h e r l = box-numbers (half-box e r (box-in l)) ++ half-numbers h e r (numbers l)
 
 -- ---- the start: the unit box, and formula (2) times the scale of every polynomial
 abbrev pub start-numbers : Head → List ℤ → List ℤ
-start-numbers h cs = in-turn h (λ t. formula (degrees h) (polynomial h cs t))
+start-numbers h cs = in-turn h (λ t. frame h .start (polynomial h cs t))
 
 unfoldable pub unit-slot : Head → List ℤ → List ℤ
 unit-slot h cs = box-numbers unit ++ start-numbers h cs

@@ -4,8 +4,7 @@ use system::head::Head;
 ghost use mathlib.Core.Path.{_≡_};
 ghost use Prim.Native.Nat.{_+_, _*_, _≤_};
 ghost use Rattle.bernstein.specs.Three.{_!_};
-ghost use Rattle.bernstein.specs.Places.{stride};
-ghost use Rattle.bernstein.proofs.Blocks.{blocks};
+ghost use Rattle.bernstein.specs.Places.{stride, blocks};
 ghost use Rattle.system.specs.Heads.{degrees};
 ghost use Rattle.boxes.specs.Boxes.{direction};
 

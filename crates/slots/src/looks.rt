@@ -16,7 +16,7 @@ ghost use Rattle.bernstein.specs.Three.{_!_};
 ghost use Rattle.system.specs.Heads.{depths};
 ghost use Rattle.boxes.specs.Boxes.{direction};
 ghost use Rattle.slots.specs.Slots.{numbers, SlotFits};
-ghost use Rattle.slots.specs.Rules.{limit, decided, cuts-in, below-depth, better, chosen, can-cut, by-choice, looked};
+ghost use Rattle.slots.specs.Rules.{limit, decided, cuts-in, below-depth, better, chosen, can-cut, able, by-choice, looked};
 
 // The lowest of the m polynomials with all numbers above zero or all below.
 fn decide(slot: &[i64], m: u8, size: usize) -> Decision
@@ -121,7 +121,7 @@ fn can_cut(slot: &[i64], h: Head, r: Direction) -> bool
 // The steps 2 to 4.
 fn undecided(slot: &[i64], h: Head) -> Outcome
     requires { ⌜ SlotFits h (now slot) ⌝ }
-    ensures { λ r. ⌜ r ≡ by-choice h (now (slot .entry)) (chosen h (now (slot .entry))) ⌝ }
+    ensures { λ r. ⌜ r ≡ by-choice (able h (now (slot .entry))) (chosen h (now (slot .entry))) ⌝ }
 {
     let c = choose(slot, h);
     match c {

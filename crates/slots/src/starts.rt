@@ -14,10 +14,9 @@ ghost use lib.IntN.{pos, natAbs, _*ℤ_};
 ghost use lib.ListN.{length, take};
 ghost use Rattle.whole.specs.Size.{Below};
 ghost use Rattle.bernstein.specs.Three.{_!_};
-ghost use Rattle.bernstein.specs.Numbers.{weight};
+ghost use Rattle.bernstein.specs.Numbers.{weight, weighted};
+ghost use Rattle.bernstein.specs.Numbers as Numbers;
 ghost use Rattle.bernstein.specs.Places.{size, index};
-ghost use Rattle.bernstein.proofs.Boxes.{weighted};
-ghost use Rattle.bernstein.proofs.Spreads as Spreads;
 ghost use Rattle.system.specs.Heads.{degrees, places, width, Limits};
 ghost use Rattle.boxes.specs.Boxes.{direction};
 ghost use Rattle.slots.specs.Slots.{at, polynomial, numbers, in-turn, unit-slot};
@@ -101,7 +100,7 @@ fn weigh(slot: &mut [i64], coefficients: &[i64], weights: &[usize], h: Head)
 // All steps along all lines of direction r.
 fn spread(slot: &mut [i64], h: Head, r: Direction)
     requires { ⌜ Limits h × (length (now slot) ≡ width h) × ((x : ℕ) → x < places h → Below (2 ^ (62 - degrees h ! direction r)) (at (now slot) (6 + x))) ⌝ }
-    ensures { λ x. ⌜ now (slot .exit) ≡ take 6 (now (slot .entry)) ++ in-turn h (λ t. Spreads.spread (degrees h) (direction r) (polynomial h (numbers (now (slot .entry))) t)) ⌝ }
+    ensures { λ x. ⌜ now (slot .exit) ≡ take 6 (now (slot .entry)) ++ in-turn h (λ t. Numbers.spread (degrees h) (direction r) (polynomial h (numbers (now (slot .entry))) t)) ⌝ }
 {
     lines::spread_blocks(slot, 6, blocks_in(h, r), stride_in(h, r), degree_in(h, r));
 }

@@ -5,13 +5,15 @@ use Prim.Native.Nat.{ℕ, _+_, _*_, _≤_, _<_}
 use native.Mathlib.Omega.{arith}
 use Rattle.bernstein.specs.Three.{first, second, third, _!_}
 use Rattle.bernstein.specs.Places.{size}
+use Rattle.bernstein.specs.Frames.{Lawful}
+use Rattle.bernstein.proofs.Frames.{boxes-lawful}
 use Rattle.system.specs.declared.head.Head.{Head}
 use Rattle.system.specs.declared.head.Checked.{Checked}
 use Rattle.system.specs.declared.refusal.Refusal.{Refusal}
 use Rattle.system.specs.Refusals.{at-start}
 use Rattle.system.specs.Claims.{Head-limits}
 use Rattle.system.specs.Directions.{direction-number, between}
-use Rattle.system.specs.Heads.{degrees, depths, places, depth, width, variable-ok, head-ok, Limits, checked}
+use Rattle.system.specs.Heads.{degrees, depths, places, depth, width, variable-ok, head-ok, Limits, checked, frame}
 use Rattle.system.proofs.Says.{Says, le-says, eq-says, and-says, beyond-says, each-says, says-as}
 use Rattle.system.proofs.Sizes.{product-high}
 
@@ -75,6 +77,10 @@ size-low h = product-low ((h .n1 + 1) * (h .n2 + 1)) (h .n3 + 1) (product-low (h
   where
     product-low : (a b : ℕ) → 1 ≤ a → 1 ≤ b → 1 ≤ a * b
     product-low a b p q = product-high 1 1 a b p q
+
+-- ---- the frame of a head within limits
+pub lawful : (h : Head) → Limits h → Lawful (frame h)
+lawful h k = boxes-lawful (degrees h) (k .degrees-high) (k .size-high)
 
 -- ---- sizes within limits
 module _ (h : Head) (k : Limits h) where

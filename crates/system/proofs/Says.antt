@@ -66,3 +66,13 @@ each-says {f} {P} p =
 -- the same fact in other words
 pub says-as : {t : Bool} {A B : Type 0} → Says t A → (A → B) → (B → A) → Says t B
 says-as p f g = record { fact = λ e. f (p .fact e); passes = λ b. p .passes (g b) }
+
+-- two tests that say one fact answer alike
+alike : {A : Type 0} (s t : Bool) → Says s A → Says t A → s ≡ t
+alike true true p q = refl
+alike true false p q = false-true (q .passes (p .fact refl))
+alike false true p q = false-true (p .passes (q .fact refl))
+alike false false p q = refl
+
+pub says-same : {s t : Bool} {A : Type 0} → Says s A → Says t A → s ≡ t
+says-same {s} {t} p q = alike s t p q

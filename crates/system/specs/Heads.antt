@@ -8,6 +8,7 @@ use Rattle.bernstein.specs.Three.{Direction, Three, three, _!_}
 use Rattle.bernstein.specs.Numbers.{Degrees, Small}
 use Rattle.bernstein.specs.Numbers
 use Rattle.bernstein.specs.Places.{size}
+use Rattle.bernstein.specs.Frames.{Frame, boxes}
 use Rattle.system.specs.Directions.{direction-number, each, between}
 use Rattle.system.specs.Refusals.{at-start}
 use Rattle.system.specs.declared.refusal.Refusal.{Refusal}
@@ -20,9 +21,13 @@ degrees h = three (h .n1) (h .n2) (h .n3)
 abbrev pub depths : Head → Three ℕ
 depths h = three (h .g1) (h .g2) (h .g3)
 
--- S is `size (degrees h)`; the places of all polynomials are m × S
+-- what a cell of the system is
+abbrev pub frame : Head → Frame
+frame h = boxes (degrees h)
+
+-- S is `frame h .size`; the places of all polynomials are m × S
 unfoldable pub places : Head → ℕ
-places h = h .m * size (degrees h)
+places h = h .m * frame h .size
 
 -- D
 abbrev pub depth : Head → ℕ

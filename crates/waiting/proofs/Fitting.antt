@@ -1,4 +1,4 @@
--- The slot of a start is fit, and so are both halves of a fit slot that the rules cut: exact numbers within M, cuts within the depths. Assumes nothing.
+-- The slot of a start is fit, and so are both halves of a fit slot, cut where it may be cut: exact numbers within M, cuts within the depths. Assumes nothing.
 use mathlib.Core.Path.{_≡_, sym, subst}
 use mathlib.Core.Bool.{true}
 use mathlib.Core.List.{List}
@@ -13,44 +13,37 @@ use Rattle.whole.specs.Half.{Half, lower, upper}
 use Rattle.whole.specs.Size.{Below}
 use Rattle.whole.proofs.Parts.{by-lt}
 use Rattle.bernstein.specs.Three
-use Rattle.bernstein.specs.Three.{first, second, third, _!_, Upto}
-use Rattle.bernstein.specs.Numbers.{Patch, Box, Span, half-span, half-box, half-patch, formula, Stored}
-use Rattle.bernstein.specs.Places.{place, size, Filled}
+use Rattle.bernstein.specs.Three.{first, second, third, _!_}
+use Rattle.bernstein.specs.Numbers.{Index, Patch, Box, Span, half-span, half-box}
+use Rattle.bernstein.specs.Frames.{Lawful}
 use Rattle.bernstein.proofs.Nested.{replaced}
-use Rattle.bernstein.proofs.Places.{place-below}
-use Rattle.bernstein.proofs.Sizes.{cut-fits}
-use Rattle.bernstein.proofs.Starts.{start-fits}
 use Rattle.system.specs.declared.head.Head.{Head}
-use Rattle.boxes.specs.declared.half.Direction.{Direction}
-use Rattle.boxes.specs.declared.visit.Outcome.{Outcome}
-use Rattle.system.specs.Heads.{degrees, depths, places, Limits}
-use Rattle.boxes.specs.Boxes.{direction}
-use Rattle.slots.specs.Slots.{at, box-in, numbers, polynomial, half-slot, unit-slot}
-use Rattle.slots.specs.Rules.{every, within, limit, can-cut, looked}
-use Rattle.slots.proofs.Builds.{half-slot-length, unit-slot-length, in-turn-filled}
+use Rattle.system.specs.Heads.{depths, frame, places, Limits}
+use Rattle.system.proofs.Heads.{lawful}
+use Rattle.slots.specs.Slots.{at, box-in, numbers, polynomial, in-turn, half-slot, unit-slot}
+use Rattle.slots.specs.Rules.{every, within, limit, can-cut}
+use Rattle.slots.proofs.Builds.{half-slot-length, unit-slot-length, in-turn-filled, number-of}
 use Rattle.slots.proofs.Decided.{every-at}
-use Rattle.slots.proofs.Chosen.{CutIn, cut-in}
 use Rattle.slots.proofs.Exactness.{unit-exact, half-exact}
 use Rattle.waiting.specs.Fits.{Fit}
 
--- ---- numbers within a bound, polynomial by polynomial
-module _ (h : Head) (xs : List ℤ) (t : ℕ) (l : t < h .m) where
-  pub number-of : (P : ℤ → Type 0) → ((i : ℕ) → i < places h → P (at xs i)) → (j : Three.Three ℕ) → Upto j (degrees h) → P (polynomial h xs t j)
-  unfolding places
-  number-of P f j u =
-      let a : suc t * size (degrees h) ≤ h .m * size (degrees h) = NatL.mul-le-mul-right (size (degrees h)) l in
-      f (t * size (degrees h) + place (degrees h) j) (omega (arith, place-below (degrees h) j u))
+-- ---- numbers within a bound, polynomial by polynomial; past the end of xs the numbers are 0
+pub every-within : (h : Head) → Lawful (frame h) → (xs : List ℤ) (t : ℕ) → t < h .m → (b : ℕ) → every (within b) xs ≡ true
+    → (j : Index) → frame h .Inside j → natAbs (polynomial h xs t j) ≤ b
+every-within h L xs t l b e = number-of h L xs t l (λ z. natAbs z ≤ b) (λ i k. by-lt i (length xs) (there i) (past i))
+  where
+    there : (i : ℕ) → i < length xs → natAbs (at xs i) ≤ b
+    there i m = leb→le (natAbs (at xs i)) b (subst T (sym (every-at (within b) xs e i m)) tt)
 
-  -- past the end of xs the numbers are 0
-  pub every-within : (b : ℕ) → every (within b) xs ≡ true → (j : Three.Three ℕ) → Upto j (degrees h) → natAbs (polynomial h xs t j) ≤ b
-  every-within b e = number-of (λ z. natAbs z ≤ b) (λ i k. by-lt i (length xs) (λ m. leb→le (natAbs (at xs i)) b (subst T (sym (every-at (within b) xs e i m)) tt)) (λ m. past i m))
-    where
-      past : (i : ℕ) → length xs ≤ i → natAbs (at xs i) ≤ b
-      past i m = rw (List·getD-eq-default xs (pos 0) m) (omega arith)
+    past : (i : ℕ) → length xs ≤ i → natAbs (at xs i) ≤ b
+    past i m = rw (List·getD-eq-default xs (pos 0) m) (omega arith)
 
--- a patch that is filled with numbers within M is within M
-filled-stored : (h : Head) (p : Patch) (xs : List ℤ) (t : ℕ) → Filled (degrees h) p xs (t * size (degrees h)) → Stored (degrees h) p → Stored (degrees h) (polynomial h xs t)
-filled-stored h p xs t f s = record { stored = λ j u. subst (Below (2 ^ 62)) (sym (f .filled j u)) (s .stored j u) }
+-- every number is within M
+abbrev pub AllStored : Head → Patch → Type 0
+AllStored h p = (j : Index) → frame h .Inside j → Below (2 ^ 62) (p j)
+
+in-turn-stored : (h : Head) → Lawful (frame h) → (p : ℕ → Patch) (t : ℕ) → t < h .m → AllStored h (p t) → AllStored h (polynomial h (in-turn h p) t)
+in-turn-stored h L p t l s j u = subst (Below (2 ^ 62)) (sym (in-turn-filled h L p t l j u)) (s j u)
 
 -- ---- a span within its depth
 half-span-fits : (e : Half) (i : Span) (g : ℕ) → i .cuts < g → i .position < 2 ^ i .cuts → (half-span e i .cuts ≤ g) × (half-span e i .position < 2 ^ half-span e i .cuts)
@@ -58,13 +51,16 @@ half-span-fits lower i g c p = (c, omega (arith, NatL.pow-succ' 2 (i .cuts)))
 half-span-fits upper i g c p = (c, omega (arith, NatL.pow-succ' 2 (i .cuts)))
 
 -- ---- the start
+pub start-stored : (h : Head) → Limits h → (cs : List ℤ) → ((i : ℕ) → i < places h → natAbs (at cs i) ≤ 1000000000)
+    → (t : ℕ) → t < h .m → AllStored h (frame h .start (polynomial h cs t))
+start-stored h m cs small t l = lawful h m .start-fits (polynomial h cs t) (number-of h (lawful h m) cs t l (λ z. natAbs z ≤ 1000000000) small)
+
 pub unit-fit : (h : Head) → Limits h → (cs : List ℤ) → ((i : ℕ) → i < places h → natAbs (at cs i) ≤ 1000000000) → Fit h cs (unit-slot h cs)
 unfolding unit-slot
 unit-fit h m cs small = record {
   long = unit-slot-length h cs;
-  exact = unit-exact h (m .degrees-high) cs;
-  stored = λ t l. filled-stored h _ _ t (in-turn-filled h (λ t. formula (degrees h) (polynomial h cs t)) t l)
-      (start-fits (degrees h) (m .degrees-high) (m .size-high) (polynomial h cs t) (number-of h cs t l (λ z. natAbs z ≤ 1000000000) small));
+  exact = unit-exact h (lawful h m) cs;
+  stored = λ t l. in-turn-stored h (lawful h m) (λ t. frame h .start (polynomial h cs t)) t l (start-stored h m cs small t l);
   cuts-high = elim [ first ↦ omega arith | second ↦ omega arith | third ↦ omega arith ];
   position-high = elim [ first ↦ omega arith | second ↦ omega arith | third ↦ omega arith ];
 }
@@ -79,22 +75,20 @@ half-spans h e d b c f =
 
 -- and its numbers are within M
 pub half-stored : (h : Head) → Limits h → (l : List ℤ) (e : Half) (d : Three.Direction) → can-cut h d l ≡ true
-    → (t : ℕ) → t < h .m → Stored (degrees h) (half-patch e (degrees h) d (polynomial h (numbers l) t))
-half-stored h m l e d c t k =
-    cut-fits (degrees h) (m .degrees-high) e d (polynomial h (numbers l) t) (record {
-      cuttable = λ j u. record { below = omega (arith, pow-pos (62 - degrees h ! d), every-within h (numbers l) t k (limit (degrees h ! d)) c j u) };
-    })
+    → (t : ℕ) → t < h .m → AllStored h (frame h .half e d (polynomial h (numbers l) t))
+half-stored h m l e d c t k = lawful h m .cut-fits e d (polynomial h (numbers l) t)
+    (λ j u. record { below = omega (arith, pow-pos (62 - frame h .degree d), every-within h (lawful h m) (numbers l) t k (limit (frame h .degree d)) c j u) })
 
-pub half-fit : (h : Head) → Limits h → (cs l : List ℤ) → Fit h cs l → (r : Direction) → looked h l ≡ Outcome.Cut r → (e : Half) → Fit h cs (half-slot h e (direction r) l)
+-- in a direction below its depth in which the box can be cut
+pub half-fit : (h : Head) → Limits h → (cs l : List ℤ) → Fit h cs l → (d : Three.Direction) → (box-in l ! d) .cuts < depths h ! d → can-cut h d l ≡ true
+    → (e : Half) → Fit h cs (half-slot h e d l)
 unfolding half-slot
-half-fit h m cs l f r o e =
-    let c : CutIn h l r = cut-in h l r o in
-    let d = direction r in
-    let spans = half-spans h e d (box-in l) (c .below) (λ r. (f .cuts-high r, f .position-high r)) in
+half-fit h m cs l f d below can e =
+    let spans = half-spans h e d (box-in l) below (λ r. (f .cuts-high r, f .position-high r)) in
     record {
       long = half-slot-length h e d l;
-      exact = half-exact h (m .degrees-high) (polynomial h cs) l (f .exact) e d;
-      stored = λ t k. filled-stored h _ _ t (in-turn-filled h (λ t. half-patch e (degrees h) d (polynomial h (numbers l) t)) t k) (half-stored h m l e d (c .can) t k);
+      exact = half-exact h (lawful h m) (polynomial h cs) l (f .exact) e d;
+      stored = λ t k. in-turn-stored h (lawful h m) (λ t. frame h .half e d (polynomial h (numbers l) t)) t k (half-stored h m l e d can t k);
       cuts-high = λ r. spans r .0;
       position-high = λ r. spans r .1;
     }

@@ -1,5 +1,5 @@
 -- The tests of a state say what 01 says: a slot, the waiting slots, the counts, and the whole check (`judged-allowed`). Assumes nothing.
-use mathlib.Core.Path.{_≡_, refl, sym, subst}
+use mathlib.Core.Path.{_≡_, refl, sym, ap, _∙_, subst}
 use mathlib.Core.Bool.{Bool, true, false}
 use mathlib.Core.List.{List, [], _∷_}
 use Prim.Native.Nat.{ℕ, zero, suc, _+_, _*_, _^_, _≤_, _<_}
@@ -16,14 +16,15 @@ use Rattle.system.specs.declared.head.Head.{Head}
 use Rattle.system.specs.declared.head.Checked.{Checked}
 use Rattle.system.specs.declared.head.Checked.the-variants.{Good, Refused}
 use Rattle.system.specs.Heads.{depths, depth, width, Limits, checked}
-use Rattle.system.proofs.Says.{Says, le-says, lt-says, and-says, each-says, says-as}
+use Rattle.system.proofs.Says.{Says, le-says, lt-says, and-says, each-says, says-as, says-same}
 use Rattle.system.proofs.Heads.{head-says}
 use Rattle.slots.specs.Slots.{at, column, numbers, SpanFits}
 use Rattle.slots.specs.Rules.{every, within}
 use Rattle.search.specs.Lent.{slot}
 use Rattle.system.specs.Chain.{test, _then_}
-use Rattle.waiting.specs.States.{most, cuts, needed, span-ok, slot-ok, slots-ok, counts-ok, judged, SlotAllowed, Judged-allowed}
+use Rattle.waiting.specs.States.{most, cuts, needed, span-ok, slot-ok, slots-ok, counts-ok, records-ok, list-ok, judged-by, judged, SlotAllowed, Judged-allowed}
 use Rattle.waiting.specs.declared.state.State.{State}
+use Rattle.waiting.specs.declared.cursor.Kept.{Kept}
 
 -- ---- one number, all numbers of a list
 is-true : (b : Bool) → T b → b ≡ true
@@ -115,31 +116,45 @@ le-passes a b w = test-passes w (le-says a b)
 pub true-passes : (b : Bool) (w : Refusal) → Passes (test b w 0) (b ≡ true)
 true-passes b w = test-passes w (record { fact = λ e. e; passes = λ e. e })
 
--- ---- the check
-counts-says : (h : Head) (s : State) (room : ℕ)
-    → Says (counts-ok h s room) ((((s .waiting ≤ suc (depth h)) × (s .kept ≤ room)) × (s .dropped ≤ s .visits)) × (s .visits ≤ 2147483647))
+-- ---- the counts
+counts-says : (h : Head) (s : State) → Says (counts-ok h s) (((s .waiting ≤ suc (depth h)) × (s .dropped ≤ s .visits)) × (s .visits ≤ 2147483647))
 unfolding counts-ok
-counts-says h s room = and-says (and-says (and-says (le-says (s .waiting) (suc (depth h))) (le-says (s .kept) room)) (le-says (s .dropped) (s .visits))) (le-says (s .visits) 2147483647)
+counts-says h s = and-says (and-says (le-says (s .waiting) (suc (depth h))) (le-says (s .dropped) (s .visits))) (le-says (s .visits) 2147483647)
 
 -- waiting slots stand in the store
-pub counts-inside : (h : Head) (s : State) (st : List ℤ) (room : ℕ) → counts-ok h s room ≡ true → needed h ≤ length st → s .waiting * width h ≤ length st
-counts-inside h s st room e l = omega (arith, NatL.mul-le-mul-right (width h) (counts-says h s room .fact e .0 .0 .0))
+pub counts-inside : (h : Head) (s : State) (st : List ℤ) → counts-ok h s ≡ true → needed h ≤ length st → s .waiting * width h ≤ length st
+counts-inside h s st e l = omega (arith, NatL.mul-le-mul-right (width h) (counts-says h s .fact e .0 .0))
 
+-- ---- the list: of its records nothing is asked but that they are there
+records-says : (n : ℕ) (list : List Kept) → Says (records-ok n list) (n ≤ length list)
+unfolding records-ok
+records-says zero list = record { fact = λ e. omega arith; passes = λ l. refl }
+records-says (suc n) [] = record { fact = λ e. let z : _≡_ {A = ℕ} 0 1 = cc in absurd (omega arith); passes = λ l. absurd (omega arith) }
+records-says (suc n) (k ∷ list) = says-as (records-says n list) (λ l. omega arith) (λ l. omega arith)
+
+list-says : (s : State) (list : List Kept) → Says (list-ok s list) (s .kept ≤ length list)
+unfolding list-ok
+list-says s list = records-says (s .kept) list
+
+pub judged-long : (h : Head) (s : State) (st : List ℤ) (list : List Kept) → judged-by h s st (leb (s .kept) (length list)) ≡ judged h s st list
+judged-long h s st list = ap (judged-by h s st) (says-same (le-says (s .kept) (length list)) (list-says s list))
+
+-- ---- the check
 pub judged-allowed : Judged-allowed
-unfolding judged
-judged-allowed h s st room =
-    let whole = head-passes h then-passes le-passes (needed h) (length st) Refusal.TooShort then-passes test-passes Refusal.OutsideRules (counts-says h s room)
-    then-passes test-passes Refusal.OutsideRules (slots-says h (s .waiting) st) in (
+unfolding judged-by
+judged-allowed h s st list =
+    let whole = head-passes h then-passes le-passes (needed h) (length st) Refusal.TooShort then-passes test-passes Refusal.OutsideRules (counts-says h s)
+    then-passes test-passes Refusal.OutsideRules (slots-says h (s .waiting) st) then-passes test-passes Refusal.OutsideRules (list-says s list) in (
       λ e. let f = whole .fact e in (
         f .0,
         f .1 .0,
         record {
-          waiting-high = f .1 .1 .0 .0 .0 .0;
-          kept-high = f .1 .1 .0 .0 .0 .1;
+          waiting-high = f .1 .1 .0 .0 .0;
+          kept-high = f .1 .1 .1 .1;
           dropped-high = f .1 .1 .0 .0 .1;
           visits-high = f .1 .1 .0 .1;
-          slots = f .1 .1 .1;
+          slots = f .1 .1 .1 .0;
         },
       ),
-      λ k. whole .passes (k .0, (k .1, ((((k .2 .waiting-high, k .2 .kept-high), k .2 .dropped-high), k .2 .visits-high), k .2 .slots))),
+      λ k. whole .passes (k .0, (k .1, (((k .2 .waiting-high, k .2 .dropped-high), k .2 .visits-high), (k .2 .slots, k .2 .kept-high)))),
     )

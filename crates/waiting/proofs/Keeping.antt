@@ -18,15 +18,16 @@ use Rattle.search.specs.Lent.{stack, slots, Lent, lent, held, Enough, Holds, le
 use Rattle.search.proofs.Search.{visit-keeps, run-keeps}
 use Rattle.search.proofs.Lent.{lent-simulates, lent-runs, stacked-length}
 use Rattle.search.proofs.Slots.{stack-length}
-use Rattle.waiting.specs.Cells.{cells, left}
+use Rattle.waiting.specs.Cells.{boxed, cells, left}
 use Rattle.waiting.specs.States.{needed, Allowed, judged}
 use Rattle.waiting.specs.States.{memory-of, state-of}
 use Rattle.waiting.specs.Steps.{begun, due, visited, moved, by-due, next, Ready}
 use Rattle.waiting.specs.Runs.{Stops-allowed}
 use Rattle.waiting.specs.declared.state.State.{State}
+use Rattle.waiting.specs.declared.cursor.Kept.{Kept}
 use Rattle.waiting.specs.declared.cursor.Cursor.{Cursor}
 use Rattle.waiting.specs.declared.step.Due.{Due}
-use Rattle.waiting.proofs.Measures.{measured}
+use Rattle.waiting.proofs.Measures.{halves-wide, measured}
 use Rattle.waiting.proofs.Judging.{AllAllowed, judged-allowed}
 use Rattle.waiting.proofs.Standing.{to-stack, from-stack, stacked, Stands, stands-closed}
 use Rattle.waiting.proofs.Turning.{Visits, Says-due, due-says, turn-go}
@@ -63,13 +64,13 @@ module _ (h : Head) where
     pub visit-in : lent (cells h) .turn (length (f .list)) f ≡ go → (length (lent (cells h) .visit f .list) ≡ length (f .list)) × Kept-in (lent (cells h) .visit f)
     visit-in t =
         held-in (length (f .list)) (lent (cells h) .visit f) (visit (slots (cells h)) (held (cells h) f))
-        (lent-simulates (cells h) (left h) (measured h) (depth h) (length (f .list)) .visits f (held (cells h) f) (k .enough, refl) t)
+        (lent-simulates (cells h) (left h) (halves-wide h) (measured h) (depth h) (length (f .list)) .visits f (held (cells h) f) (k .enough, refl) t)
         (visit-keeps (slots (cells h)) (λ z s. Stands h s) (stands-closed h m) [] (held (cells h) f) (k .stands))
 
     pub drive-in : (b : ℕ) → (length (drive (lent (cells h)) b (length (f .list)) f .state .list) ≡ length (f .list)) × Kept-in (drive (lent (cells h)) b (length (f .list)) f .state)
     drive-in b =
         held-in (length (f .list)) (drive (lent (cells h)) b (length (f .list)) f .state) (run (slots (cells h)) b (length (f .list)) (held (cells h) f) .state)
-        (lent-runs ℤ (cells h) (left h) (measured h) (depth h) (length (f .list)) b f (k .enough) .state)
+        (lent-runs ℤ (cells h) (left h) (halves-wide h) (measured h) (depth h) (length (f .list)) b f (k .enough) .state)
         (run-keeps (slots (cells h)) (λ z s. Stands h s) (stands-closed h m) b (length (f .list)) [] (held (cells h) f) (k .stands))
 
   -- as the rules say it
@@ -94,7 +95,7 @@ stops-allowed h s st list m long a b =
     record { long = q .1 .enough .store-fits; places = q .0; allowed = λ v. subst (Allowed h (state-of f) (f .store)) (q .0) (allowed-in h (state-of f) (f .store) (f .list) (q .1) v) }
 
 -- ---- one step
-moved-visits : (h : Head) (st : List ℤ) (c : Cursor) (o : Outcome) → moved h st c o .cursor .state .visits ≡ suc (c .state .visits)
+moved-visits : (h : Head) (st : List ℤ) (c : Cursor) (o : Outcome) → moved (boxed h) st c o .cursor .state .visits ≡ suc (c .state .visits)
 unfolding visited lent-become
 moved-visits h st c (Outcome.Dropped p s) = refl
 moved-visits h st c (Outcome.Kept mark) = refl
@@ -102,49 +103,50 @@ moved-visits h st c (Outcome.Cut r) = refl
 
 module _ (h : Head) (st : List ℤ) (c : Cursor) (r : Ready h st c) where
   -- any list of that length shows what a visit does to the store
-  ready-moved : (o : Outcome) → Visits h st c o → Ready h (moved h st c o .store) (moved h st c o .cursor)
+  ready-moved : (o : Outcome) → Visits (boxed h) st c o → Ready h (moved (boxed h) st c o .store) (moved (boxed h) st c o .cursor)
   ready-moved o v =
       let list : List (Entry Box) = replicate (c .room) (entry unit 0 0) in
       let e : c .room ≡ length list = sym (length-replicate (c .room) (entry unit 0 0)) in
       let k : Kept-in h (memory-of st list (c .state)) = kept-in h (c .state) st list (r .long) (omega (arith, r .kept-high)) (r .dropped-high) (r .slots) in
       let t : lent (cells h) .turn (length list) (memory-of st list (c .state)) ≡ go
-      = ap (λ (i : ℕ). lent (cells h) .turn i (memory-of st list (c .state))) (sym e) ∙ turn-is h list st c e (r .kept-high) ∙ turn-go h st c o v in
-      let q : (length (then h list st c e (r .kept-high) o) ≡ length list) × Kept-in h (memory-of (moved h st c o .store) (then h list st c e (r .kept-high) o) (moved h st c o .cursor .state))
-      = subst (λ (f : Lent ℤ Box). (length (f .list) ≡ length list) × Kept-in h f) (visit-is h list st c e (r .kept-high) o v) (visit-in h (r .limits) (memory-of st list (c .state)) k t) in
+      = ap (λ (i : ℕ). lent (cells h) .turn i (memory-of st list (c .state))) (sym e) ∙ turn-is (boxed h) list st c e (r .kept-high) ∙ turn-go (boxed h) st c o v in
+      let q : (length (then (boxed h) list st c e (r .kept-high) o) ≡ length list) × Kept-in h (memory-of (moved (boxed h) st c o .store) (then (boxed h) list st c e (r .kept-high) o) (moved (boxed h) st c o .cursor .state))
+      = subst (λ (f : Lent ℤ Box). (length (f .list) ≡ length list) × Kept-in h f) (visit-is (boxed h) list st c e (r .kept-high) o v) (visit-in h (r .limits) (memory-of st list (c .state)) k t) in
       record {
         limits = r .limits;
         long = q .1 .enough .store-fits;
-        slots = all-allowed h (moved h st c o .cursor .state) (moved h st c o .store) (then h list st c e (r .kept-high) o) (q .1);
+        slots = all-allowed h (moved (boxed h) st c o .cursor .state) (moved (boxed h) st c o .store) (then (boxed h) list st c e (r .kept-high) o) (q .1);
         kept-high = omega (arith, q .1 .enough .kept-fits, q .0);
         room-fits = r .room-fits;
         dropped-high = q .1 .stands .dropped-high;
         visits-fit = omega (arith, moved-visits h st c o, r .visits-fit, v .budget);
       }
 
-  ready-by : (d : Due) → Says-due h st c d → Ready h (by-due h st c d .store) (by-due h st c d .cursor)
+  ready-by : (d : Due) → Says-due (boxed h) st c d → Ready h (by-due (boxed h) st c d .store) (by-due (boxed h) st c d .cursor)
   ready-by (Due.Stop w) s = record { limits = r .limits; long = r .long; slots = r .slots; kept-high = r .kept-high; room-fits = r .room-fits; dropped-high = r .dropped-high; visits-fit = r .visits-fit }
   ready-by (Due.Visit o) s = ready-moved o s
 
   -- The invariant of a driver's loop.
-  pub ready-next : Ready h (next h st c .store) (next h st c .cursor)
+  pub ready-next : Ready h (next (boxed h) st c .store) (next (boxed h) st c .cursor)
   unfolding next
-  ready-next = ready-by (due h st c) (due-says h st c)
+  ready-next = ready-by (due (boxed h) st c) (due-says (boxed h) st c)
 
   -- its measure: what is left of the budget, and the turn that stops
-  fewer-by : (d : Due) → Says-due h st c d → turns-left (by-due h st c d .cursor) < suc (c .left)
+  fewer-by : (d : Due) → Says-due (boxed h) st c d → turns-left (by-due (boxed h) st c d .cursor) < suc (c .left)
   fewer-by (Due.Stop w) s = omega arith
   fewer-by (Due.Visit o) s = omega (arith, s .budget)
 
-  pub next-fewer : c .go ≡ true → turns-left (next h st c .cursor) < turns-left c
+  pub next-fewer : c .go ≡ true → turns-left (next (boxed h) st c .cursor) < turns-left c
   unfolding next
   next-fewer e =
       let n : turns-left c ≡ suc (c .left) = ap (λ (b : Bool). cond b (suc (c .left)) 0) e in
-      subst (λ (i : ℕ). turns-left (next h st c .cursor) < i) (sym n) (fewer-by (due h st c) (due-says h st c))
+      subst (λ (i : ℕ). turns-left (next (boxed h) st c .cursor) < i) (sym n) (fewer-by (due (boxed h) st c) (due-says (boxed h) st c))
 
 -- a state that passes the check may be run with any 32-bit budget and any list
-pub judged-ready : (h : Head) (s : State) (st : List ℤ) (room budget : ℕ) → room < 2 ^ 64 → budget < 2 ^ 32 → judged h s st room ≡ Good → Ready h st (begun s budget room)
-judged-ready h s st room budget r b e =
-    let k = judged-allowed h s st room .0 e in
+pub judged-ready : (h : Head) (s : State) (st : List ℤ) (list : List Kept) (budget : ℕ) → length list < 2 ^ 64 → budget < 2 ^ 32 → judged h s st list ≡ Good
+    → Ready h st (begun s budget (length list))
+judged-ready h s st list budget r b e =
+    let k = judged-allowed h s st list .0 e in
     record {
       limits = k .0;
       long = k .1;

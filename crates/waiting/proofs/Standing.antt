@@ -1,6 +1,7 @@
 -- The rules allow the slot of a start and both halves of an allowed slot that is cut, so every slot that a run reaches is allowed; and D + 1 slots are enough.
 -- Assumes nothing.
 use mathlib.Core.Path.{_≡_}
+use mathlib.Core.Bool.{true}
 use mathlib.Core.List.{List, [], _∷_, _++_}
 use Prim.Native.Nat.{ℕ, zero, suc, _+_, _/_, _%_, _^_, _≤_, _<_}
 use native.Mathlib.Omega.{arith}
@@ -11,20 +12,16 @@ use Rattle.whole.specs.Half.{Half, lower, upper}
 use Rattle.whole.proofs.Order.{nonneg-pos}
 use Rattle.bernstein.specs.Three
 use Rattle.bernstein.specs.Three.{first, second, third, _!_}
-use Rattle.bernstein.specs.Numbers.{Patch, Box, half-box, half-patch, formula, unit, Stored}
-use Rattle.bernstein.specs.Places.{size, index}
-use Rattle.bernstein.proofs.Indices.{index-upto}
-use Rattle.bernstein.proofs.Starts.{start-fits}
+use Rattle.bernstein.specs.Numbers.{Patch, Box, half-box, unit}
+use Rattle.bernstein.specs.Frames.{Lawful}
 use Rattle.system.specs.declared.head.Head.{Head}
-use Rattle.boxes.specs.declared.half.Direction.{Direction}
-use Rattle.boxes.specs.declared.visit.Outcome.{Outcome}
-use Rattle.system.specs.Heads.{degrees, depths, depth, places, width, Limits}
+use Rattle.system.specs.Heads.{depths, depth, frame, places, width, Limits}
 use Rattle.boxes.specs.Boxes.{direction}
-use Rattle.system.proofs.Heads.{size-low}
-use Rattle.slots.specs.Slots.{at, column, box-in, box-numbers, numbers, in-turn, polynomial, half-slot, unit-slot, SpanFits}
-use Rattle.slots.specs.Rules.{looked}
+use Rattle.system.proofs.Heads.{lawful}
+use Rattle.slots.specs.Slots.{at, column, box-in, box-numbers, numbers, in-turn, polynomial, half-numbers, half-slot, start-numbers, unit-slot, SpanFits}
+use Rattle.slots.specs.Rules.{can-cut, looked}
 use Rattle.slots.proofs.Builds.{build-at, in-turn-length}
-use Rattle.slots.proofs.Chosen.{CutIn, cut-in}
+use Rattle.slots.proofs.Chosen.{cut-in}
 use Rattle.search.specs.Search.{is-dropped, is-kept, is-cut, States, become}
 use Rattle.search.specs.Lent.{slot, stack, slots, Stacked}
 use Rattle.search.proofs.Search.{Closed}
@@ -32,22 +29,18 @@ use Rattle.search.proofs.Slots.{stack-length}
 use Rattle.waiting.specs.Cells.{cells, left}
 use Rattle.waiting.specs.States.{most, cuts, SlotAllowed}
 use Rattle.waiting.proofs.Measures.{outcome-is}
-use Rattle.waiting.proofs.Fitting.{number-of, half-spans, half-stored}
+use Rattle.waiting.proofs.Fitting.{AllStored, start-stored, half-spans, half-stored}
 use Rattle.waiting.proofs.Judging.{AllAllowed, one-more}
 
 -- ---- the numbers of patches in turn, place by place
-in-turn-at : (h : Head) (p : ℕ → Patch) (i : ℕ) → i < places h → at (in-turn h p) i ≡ p (i / size (degrees h)) (index (degrees h) (i % size (degrees h)))
-unfolding in-turn
-in-turn-at h p i l = build-at (places h) _ i l
-
-in-turn-small : (h : Head) (p : ℕ → Patch) → ((t : ℕ) → t < h .m → Stored (degrees h) (p t)) → (i : ℕ) → i < length (in-turn h p) → natAbs (at (in-turn h p) i) ≤ most
-unfolding places
-in-turn-small h p f i l =
-    let some : 0 < size (degrees h) = size-low h in
+in-turn-small : (h : Head) → Lawful (frame h) → (p : ℕ → Patch) → ((t : ℕ) → t < h .m → AllStored h (p t)) → (i : ℕ) → i < length (in-turn h p) → natAbs (at (in-turn h p) i) ≤ most
+unfolding in-turn places
+in-turn-small h L p f i l =
+    let some : 0 < frame h .size = L .size-low in
     let below : i < places h = rw (in-turn-length h p) at l in
-    let row : i / size (degrees h) < h .m = NatL.div-lt-iff-lt-mul some .1 below in
-    let s = f (i / size (degrees h)) row .stored (index (degrees h) (i % size (degrees h))) (index-upto (degrees h) (i % size (degrees h)) (NatL.mod-lt i some)) in
-    rw (in-turn-at h p i below) (omega (arith, s .below))
+    let row : i / frame h .size < h .m = NatL.div-lt-iff-lt-mul some .1 below in
+    let s = f (i / frame h .size) row (frame h .index (i % frame h .size)) (L .index-inside (i % frame h .size) (NatL.mod-lt i some)) in
+    rw (build-at (places h) (λ x. p (x / frame h .size) (frame h .index (x % frame h .size))) i below) (omega (arith, s .below))
 
 -- ---- a slot that a box and patches make
 abbrev SpansIn : Head → Box → Type 0
@@ -68,9 +61,8 @@ spans-in h p l a third = (a .spans third .s-high, a .spans third .k-high)
 pub unit-allowed : (h : Head) → Limits h → (cs : List ℤ) → ((i : ℕ) → i < places h → natAbs (at cs i) ≤ 1000000000) → SlotAllowed h 0 (unit-slot h cs)
 unfolding unit-slot
 unit-allowed h m cs small = record {
-  spans = made-spans h unit (in-turn h (λ t. formula (degrees h) (polynomial h cs t))) (elim [ first ↦ (omega arith, omega arith) | second ↦ (omega arith, omega arith) | third ↦ (omega arith, omega arith) ]);
-  small = in-turn-small h (λ t. formula (degrees h) (polynomial h cs t))
-      (λ t l. start-fits (degrees h) (m .degrees-high) (m .size-high) (polynomial h cs t) (number-of h cs t l (λ z. natAbs z ≤ 1000000000) small));
+  spans = made-spans h unit (start-numbers h cs) (elim [ first ↦ (omega arith, omega arith) | second ↦ (omega arith, omega arith) | third ↦ (omega arith, omega arith) ]);
+  small = in-turn-small h (lawful h m) (λ t. frame h .start (polynomial h cs t)) (start-stored h m cs small);
   deep = omega arith;
 }
 
@@ -84,17 +76,15 @@ half-cuts h upper first l = omega arith
 half-cuts h upper second l = omega arith
 half-cuts h upper third l = omega arith
 
-pub half-allowed : (h : Head) → Limits h → (p : ℕ) (l : List ℤ) → SlotAllowed h p l → (r : Direction) → looked h l ≡ Outcome.Cut r → (e : Half) (q : ℕ) → q ≤ suc p
-    → SlotAllowed h q (half-slot h e (direction r) l)
+-- in a direction below its depth in which the box can be cut
+pub half-allowed : (h : Head) → Limits h → (p : ℕ) (l : List ℤ) → SlotAllowed h p l → (d : Three.Direction) → (box-in l ! d) .cuts < depths h ! d → can-cut h d l ≡ true
+    → (e : Half) (q : ℕ) → q ≤ suc p → SlotAllowed h q (half-slot h e d l)
 unfolding half-slot
-half-allowed h m p l a r o e q k =
-    let c : CutIn h l r = cut-in h l r o in
-    record {
-      spans = made-spans h (half-box e (direction r) (box-in l)) (in-turn h (λ t. half-patch e (degrees h) (direction r) (polynomial h (numbers l) t)))
-          (half-spans h e (direction r) (box-in l) (c .below) (spans-in h p l a));
-      small = in-turn-small h (λ t. half-patch e (degrees h) (direction r) (polynomial h (numbers l) t)) (half-stored h m l e (direction r) (c .can));
-      deep = omega (arith, half-cuts h e (direction r) l, a .deep);
-    }
+half-allowed h m p l a d below can e q k = record {
+  spans = made-spans h (half-box e d (box-in l)) (half-numbers h e d (numbers l)) (half-spans h e d (box-in l) below (spans-in h p l a));
+  small = in-turn-small h (lawful h m) (λ t. frame h .half e d (polynomial h (numbers l) t)) (half-stored h m l e d can);
+  deep = omega (arith, half-cuts h e d l, a .deep);
+}
 
 -- ---- the waiting slots as the stack of a search, the top first
 abbrev pub StackAllowed : Head → List (List ℤ) → Type 0
@@ -130,7 +120,8 @@ unfolding become
 stands-closed h m z n s (is-dropped x) e u p = record { allowed = p .allowed .1; dropped-high = omega (arith, p .dropped-high) }
 stands-closed h m z n s (is-kept k) e u p = record { allowed = p .allowed .1; dropped-high = omega (arith, p .dropped-high) }
 stands-closed h m z n s (is-cut r) e u p =
-    let half = half-allowed h m (length (s .waiting)) n (p .allowed .0) r (outcome-is (looked h n) e) in
+    let c = cut-in h n r (outcome-is (looked h n) e) in
+    let half = half-allowed h m (length (s .waiting)) n (p .allowed .0) (direction r) (c .below) (c .can) in
     record {
       allowed = (half lower (suc (length (s .waiting))) (omega arith), (half upper (length (s .waiting)) (omega arith), p .allowed .1));
       dropped-high = omega (arith, p .dropped-high);

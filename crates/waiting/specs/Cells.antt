@@ -2,6 +2,7 @@
 use mathlib.Core.List.{List}
 use Prim.Native.Nat.{ℕ, _+_, _-_}
 use lib.IntN.{ℤ, pos}
+use Rattle.whole.specs.Half.{Half}
 use Rattle.bernstein.specs.Numbers.{Box}
 use Rattle.system.specs.declared.head.Head.{Head}
 use Rattle.boxes.specs.declared.half.Direction.{Direction}
@@ -11,7 +12,6 @@ use Rattle.system.specs.Heads.{depths, width}
 use Rattle.boxes.specs.Boxes.{direction}
 use Rattle.slots.specs.Slots.{box-in, half-slot}
 use Rattle.slots.specs.Rules.{looked}
-use Rattle.slots.proofs.Builds.{half-slot-length}
 use Rattle.search.specs.Search.{Look, is-dropped, is-kept, is-cut}
 use Rattle.search.specs.Lent.{Slots}
 
@@ -21,18 +21,32 @@ as-look (Outcome.Dropped p s) = is-dropped (p, s)
 as-look (Outcome.Kept mark) = is-kept mark
 as-look (Outcome.Cut r) = is-cut r
 
-abbrev pub cells : Head → Slots ℤ
-cells h = record {
+-- Cells that are boxes, whatever their numbers are: of a slot its box, what the rules say of it, and its halves in a direction.
+pub record Boxed (A : Type 0) : Type 0 where
+  pub width : ℕ
+  pub blank : A
+  pub box : List A → Box
+  pub says : List A → Outcome
+  pub half : Half → Direction → List A → List A
+
+abbrev pub cells-of : {A : Type 0} → Boxed A → Slots A
+cells-of K = record {
   Place = Box;
   Drop = ℕ × Sign;
   Cut = Direction;
-  width = width h;
-  blank = pos 0;
-  place = box-in;
-  look = λ l. as-look (looked h l);
-  half = λ e r l. half-slot h e (direction r) l;
-  half-width = λ e r l _. half-slot-length h e (direction r) l;
+  width = K .width;
+  blank = K .blank;
+  place = K .box;
+  look = λ l. as-look (K .says l);
+  half = K .half;
 }
+
+-- the boxes of a system
+abbrev pub boxed : Head → Boxed ℤ
+boxed h = record { width = width h; blank = pos 0; box = box-in; says = looked h; half = λ e r l. half-slot h e (direction r) l }
+
+abbrev pub cells : Head → Slots ℤ
+cells h = cells-of (boxed h)
 
 -- the cuts that a box has left, to its depths
 abbrev pub left : Head → List ℤ → ℕ

@@ -7,17 +7,17 @@ use lib.IntN.{ℤ, pos}
 use lib.ListN.{length}
 use lib.Signed.{_<ℤ_}
 use Rattle.bernstein.specs.Three.{Direction, Three, _!_}
-use Rattle.bernstein.specs.Numbers.{Box, Stored}
-use Rattle.bernstein.specs.Points.{Within, value}
+use Rattle.whole.specs.Size.{Below}
+use Rattle.bernstein.specs.Numbers.{Index, Box}
 use Rattle.system.specs.declared.head.Head.{Head}
-use Rattle.system.specs.Heads.{degrees, depths, width}
+use Rattle.system.specs.Heads.{depths, frame, width}
 use Rattle.slots.specs.Slots.{box-in, numbers, polynomial, ExactSlot}
 
 -- of a slot, in a run of the system with the head h and the coefficients cs
 pub record Fit (h : Head) (cs l : List ℤ) : Type 0 where
   pub long : length l ≡ width h
   pub exact : ExactSlot h (polynomial h cs) l
-  pub stored : (t : ℕ) → t < h .m → Stored (degrees h) (polynomial h (numbers l) t)
+  pub stored : (t : ℕ) → t < h .m → (j : Index) → frame h .Inside j → Below (2 ^ 62) (polynomial h (numbers l) t j)
   pub cuts-high : (r : Direction) → (box-in l ! r) .cuts ≤ depths h ! r
   pub position-high : (r : Direction) → (box-in l ! r) .position < 2 ^ (box-in l ! r) .cuts
 
@@ -27,13 +27,13 @@ pub record Point : Type 0 where
   pub q : ℤ
   pub above-zero : pos 0 <ℤ q
 
-abbrev pub LiesIn : Point → Box → Type 0
-LiesIn x b = Within b (x .numerators) (x .q)
+abbrev pub LiesIn : Head → Point → Box → Type 0
+LiesIn h x b = frame h .Lies b (x .numerators) (x .q)
 
 -- all polynomials are zero there
 pub record CommonZero (h : Head) (cs : List ℤ) (x : Point) : Type 0 where
-  pub zeros : (t : ℕ) → t < h .m → value (degrees h) (x .numerators) (x .q) (polynomial h cs t) ≡ pos 0
+  pub zeros : (t : ℕ) → t < h .m → frame h .value (x .numerators) (x .q) (polynomial h cs t) ≡ pos 0
 
 -- every rational point of b lies in c
-abbrev pub InsideBox : Box → Box → Type 0
-InsideBox b c = (x : Point) → LiesIn x b → LiesIn x c
+abbrev pub InsideBox : Head → Box → Box → Type 0
+InsideBox h b c = (x : Point) → LiesIn h x b → LiesIn h x c

@@ -1,8 +1,8 @@
--- The check of a state against the head, the waiting store and the list's length (01, "Refusal numbers", Run: 4, 9, 10): once as the chain of tests that
--- `check` makes, once as a record of facts. Definitions, and the statement that the two agree.
+-- The check of a state against the head, the waiting store and the list (01, "Refusal numbers", Run: 4, 9, 10): once as the chain of tests that `check` makes,
+-- once as a record of facts. Definitions, and the statement that the two agree.
 use mathlib.Core.Path.{_≡_}
-use mathlib.Core.Bool.{Bool, true, _&&_}
-use mathlib.Core.List.{List}
+use mathlib.Core.Bool.{Bool, true, false, _&&_}
+use mathlib.Core.List.{List, [], _∷_}
 use mathlib.Core.Logic.{_↔_}
 use Prim.Native.Nat.{ℕ, zero, suc, _+_, _-_, _*_, _^_, _≤_, _<_}
 use lib.Dec.{leb, ltb}
@@ -24,6 +24,7 @@ use Rattle.search.specs.Search.{Entry}
 use Rattle.search.specs.Lent.{slot, Lent, memory}
 use Rattle.system.specs.Chain.{test, _then_}
 use Rattle.waiting.specs.declared.state.State.{State}
+use Rattle.waiting.specs.declared.cursor.Kept.{Kept}
 
 -- M
 abbrev pub most : ℕ
@@ -38,10 +39,10 @@ abbrev pub needed : Head → ℕ
 needed h = suc (depth h) * width h
 
 -- ---- a state as the counts of lent memory
-abbrev pub memory-of : List ℤ → List (Entry Box) → State → Lent ℤ Box
+abbrev pub memory-of : {A : Type 0} → List A → List (Entry Box) → State → Lent A Box
 memory-of st list s = memory st list (s .waiting) (s .kept) (s .visits) (s .dropped)
 
-abbrev pub state-of : Lent ℤ Box → State
+abbrev pub state-of : {A : Type 0} → Lent A Box → State
 state-of f = record { waiting = f .waiting; kept = f .kept; visits = f .visits; dropped = f .dropped }
 
 -- ---- as tests
@@ -58,15 +59,29 @@ unfoldable pub slots-ok : Head → (waiting : ℕ) → List ℤ → Bool
 slots-ok h zero st = true
 slots-ok h (suc p) st = slots-ok h p st && slot-ok h p (slot (width h) p st)
 
-unfoldable pub counts-ok : Head → State → (room : ℕ) → Bool
-counts-ok h s room = leb (s .waiting) (suc (depth h)) && leb (s .kept) room && leb (s .dropped) (s .visits) && leb (s .visits) 2147483647
+unfoldable pub counts-ok : Head → State → Bool
+counts-ok h s = leb (s .waiting) (suc (depth h)) && leb (s .dropped) (s .visits) && leb (s .visits) 2147483647
 
-unfoldable pub judged : Head → State → List ℤ → (room : ℕ) → Checked
-judged h s st room =
+-- the list, record by record: as many as were kept are there
+unfoldable pub records-ok : (kept : ℕ) → List Kept → Bool
+records-ok zero list = true
+records-ok (suc n) [] = false
+records-ok (suc n) (k ∷ list) = records-ok n list
+
+unfoldable pub list-ok : State → List Kept → Bool
+list-ok s list = records-ok (s .kept) list
+
+-- the tests in order, by what is found of the list
+unfoldable pub judged-by : Head → State → List ℤ → (listed : Bool) → Checked
+judged-by h s st listed =
     checked h
     then test (leb (needed h) (length st)) Refusal.TooShort 0
-    then test (counts-ok h s room) Refusal.OutsideRules 0
+    then test (counts-ok h s) Refusal.OutsideRules 0
     then test (slots-ok h (s .waiting) st) Refusal.OutsideRules 0
+    then test listed Refusal.OutsideRules 0
+
+abbrev pub judged : Head → State → List ℤ → List Kept → Checked
+judged h s st list = judged-by h s st (list-ok s list)
 
 -- ---- as facts
 pub record SlotAllowed (h : Head) (p : ℕ) (l : List ℤ) : Type 0 where
@@ -83,7 +98,8 @@ pub record Allowed (h : Head) (s : State) (st : List ℤ) (room : ℕ) : Type 0 
 
 -- A state is let through exactly if the head is within limits, the store is long enough, and the rules allow the state.
 abbrev pub Judged-allowed : Type 0
-Judged-allowed = (h : Head) (s : State) (st : List ℤ) (room : ℕ) → (judged h s st room ≡ Checked.Good) ↔ (Limits h × (needed h ≤ length st) × Allowed h s st room)
+Judged-allowed = (h : Head) (s : State) (st : List ℤ) (list : List Kept)
+    → (judged h s st list ≡ Checked.Good) ↔ (Limits h × (needed h ≤ length st) × Allowed h s st (length list))
 
 -- A slot that may be cut in direction r, as `cut` asks it.
 pub record MayCut (h : Head) (r : Half.Direction) (l : List ℤ) : Type 0 where

@@ -1,11 +1,12 @@
-// The state of a run, and its check against the head, the waiting store and the length of the list.
+// The state of a run, and its check against the head, the waiting store and the list.
 use crate::store::long_enough;
 use crate::store::slots_ok;
 use system::head::Checked;
 use system::head::Head;
 use system::refusal::Refusal;
 ghost use mathlib.Core.Path.{_≡_};
-ghost use Rattle.waiting.specs.States.{counts-ok, judged};
+ghost use lib.Dec.{leb};
+ghost use Rattle.waiting.specs.States.{counts-ok, judged-by};
 ghost use Rattle.system.specs.Chain.{refused};
 
 // The four counts.
@@ -22,13 +23,10 @@ pub fn refuse(why: Refusal) -> Checked
     Checked::Refused(why.at_start())
 }
 
-fn counts_ok(h: Head, s: State, room: usize) -> bool
-    ensures { λ r. ⌜ r ≡ counts-ok h s room ⌝ }
+fn counts_ok(h: Head, s: State) -> bool
+    ensures { λ r. ⌜ r ≡ counts-ok h s ⌝ }
 {
     if s.waiting > h.depth() + 1 {
-        return false;
-    }
-    if s.kept > room {
         return false;
     }
     if s.dropped > s.visits {
@@ -37,9 +35,9 @@ fn counts_ok(h: Head, s: State, room: usize) -> bool
     s.visits <= 2147483647
 }
 
-// 4, 9, 10, in this order.
+// 4, 9, 10, in this order; of the list, whatever its records, that it has room for those kept.
 pub fn check(h: Head, s: State, store: &[i64], room: usize) -> Checked
-    ensures { λ r. ⌜ r ≡ judged h s (now (store .entry)) room ⌝ }
+    ensures { λ r. ⌜ r ≡ judged-by h s (now (store .entry)) (leb (s .kept) room) ⌝ }
 {
     if !h.ok() {
         return refuse(Refusal::OutOfLimits);
@@ -47,10 +45,13 @@ pub fn check(h: Head, s: State, store: &[i64], room: usize) -> Checked
     if !long_enough(h, store.len()) {
         return refuse(Refusal::TooShort);
     }
-    if !counts_ok(h, s, room) {
+    if !counts_ok(h, s) {
         return refuse(Refusal::OutsideRules);
     }
     if !slots_ok(store, h, s.waiting) {
+        return refuse(Refusal::OutsideRules);
+    }
+    if s.kept > room {
         return refuse(Refusal::OutsideRules);
     }
     Checked::Good

@@ -15,6 +15,7 @@ use boxes::visit::Visit;
 use boxes::visit::Word;
 use system::head::Head;
 ghost use mathlib.Core.Path.{_≡_};
+ghost use Rattle.waiting.specs.Cells.{boxed};
 ghost use Rattle.waiting.specs.Steps.{halted, for-room, due, moved, next, no-visit, seen, Ready, MayVisit};
 
 // What the rules say before a visit: a stop, or what becomes of the top box.
@@ -46,7 +47,7 @@ fn for_room(what: Outcome, kept: usize, room: usize) -> Due
 
 fn before_visit(store: &[i64], h: Head, c: Cursor) -> Due
     requires { ⌜ Ready h (now store) c ⌝ }
-    ensures { λ r. ⌜ r ≡ due h (now (store .entry)) c ⌝ }
+    ensures { λ r. ⌜ r ≡ due (boxed h) (now (store .entry)) c ⌝ }
 {
     let s = c.state;
     if s.waiting == 0 {
@@ -61,7 +62,7 @@ fn before_visit(store: &[i64], h: Head, c: Cursor) -> Due
 // The top box becomes what the rules say.
 fn make(store: &mut [i64], h: Head, c: Cursor, what: Outcome) -> Cursor
     requires { ⌜ MayVisit h (now store) c what ⌝ }
-    ensures { λ r. ⌜ (r ≡ moved h (now (store .entry)) c what .cursor) × (now (store .exit) ≡ moved h (now (store .entry)) c what .store) ⌝ }
+    ensures { λ r. ⌜ (r ≡ moved (boxed h) (now (store .entry)) c what .cursor) × (now (store .exit) ≡ moved (boxed h) (now (store .entry)) c what .store) ⌝ }
 {
     let mut s = c.state;
     let p = s.waiting - 1;
@@ -92,7 +93,7 @@ fn make(store: &mut [i64], h: Head, c: Cursor, what: Outcome) -> Cursor
 // One step of a run: a stop, or a visit.
 pub fn step(store: &mut [i64], h: Head, c: Cursor) -> Cursor
     requires { ⌜ Ready h (now store) c ⌝ }
-    ensures { λ r. ⌜ (r ≡ next h (now (store .entry)) c .cursor) × (now (store .exit) ≡ next h (now (store .entry)) c .store) ⌝ }
+    ensures { λ r. ⌜ (r ≡ next (boxed h) (now (store .entry)) c .cursor) × (now (store .exit) ≡ next (boxed h) (now (store .entry)) c .store) ⌝ }
 {
     let d = before_visit(store, h, c);
     match d {
@@ -118,7 +119,7 @@ fn not_made(c: Cursor, w: Word) -> Made
 // The same step, with the visit that it made.
 pub fn step_seen(store: &mut [i64], h: Head, c: Cursor) -> Made
     requires { ⌜ Ready h (now store) c ⌝ }
-    ensures { λ r. ⌜ (r .cursor ≡ next h (now (store .entry)) c .cursor) × (r .visit ≡ seen h (now (store .entry)) c (due h (now (store .entry)) c)) × (now (store .exit) ≡ next h (now (store .entry)) c .store) ⌝ }
+    ensures { λ r. ⌜ (r .cursor ≡ next (boxed h) (now (store .entry)) c .cursor) × (r .visit ≡ seen (boxed h) (now (store .entry)) c (due (boxed h) (now (store .entry)) c)) × (now (store .exit) ≡ next (boxed h) (now (store .entry)) c .store) ⌝ }
 {
     let d = before_visit(store, h, c);
     match d {

@@ -4,7 +4,7 @@ use native.Mathlib.Omega.{arith}
 use native.Mathlib.Nat.{mul-one}
 use borrow.Author.Needs.{needs}
 use Prim.Native.Nat.{ℕ, _*_, _≤_}
-use Rattle.bernstein.proofs.Blocks.{blocks}
+use Rattle.bernstein.specs.Places.{blocks}
 use Rattle.boxes.specs.declared.half.Direction.{Direction}
 use Rattle.boxes.specs.Boxes.{direction}
 use Rattle.system.specs.Heads.{degrees}

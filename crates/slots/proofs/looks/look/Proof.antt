@@ -5,9 +5,10 @@ use Prim.Native.Nat.{ℕ}
 use Rattle.system.specs.Heads.{degrees}
 use Rattle.bernstein.specs.Places.{size}
 use Rattle.system.proofs.Heads.{size-low}
+use Rattle.slots.specs.declared.Decision.{Decision}
 use Rattle.slots.specs.Slots.{numbers}
-use Rattle.slots.specs.Rules.{decided, by-decision}
-use Rattle.slots.proofs.Looking.{slot-length, looked-by}
+use Rattle.slots.specs.Rules.{decided, able, looked-by}
+use Rattle.slots.proofs.Looking.{slot-length, decision-looks}
 use Rattle.slots.proofs.looks.look.Statement.{statement}
 use Rattle.slots.proofs.looks.look.Tie as tie
 
@@ -22,12 +23,12 @@ decision c = let s = c .before .before in c .decide .ensures ∙ ap (λ (z : ℕ
 returns : tie.Need-returns
 returns c =
     let d = c .before .before .before in let s = d .before .before in
-    sym (ap (by-decision (s .args .h) (s .args .slot .now)) (c .before .d .given .1)) ∙ looked-by (s .args .h) (s .args .slot .now) (decision d)
+    sym (ap (λ (d : Decision). looked-by (s .args .h) (s .args .slot .now) d (able (s .args .h) (s .args .slot .now))) (c .before .d .given .1)) ∙ decision-looks (s .args .h) (s .args .slot .now) (decision d)
 
 returns-2 : tie.Need-returns-2
 returns-2 c =
     let d = c .before .before .before in let s = d .before .before in
-    c .undecided .ensures ∙ sym (ap (by-decision (s .args .h) (s .args .slot .now)) (c .before .enum-told .given .1)) ∙ looked-by (s .args .h) (s .args .slot .now) (decision d)
+    c .undecided .ensures ∙ sym (ap (λ (d : Decision). looked-by (s .args .h) (s .args .slot .now) d (able (s .args .h) (s .args .slot .now))) (c .before .enum-told .given .1)) ∙ decision-looks (s .args .h) (s .args .slot .now) (decision d)
 
 pub look-spec : {M : Type 1} → statement M
 look-spec = tie.close (tie.spec (λ c κs. search needs) decide-requires (λ c. search needs) (λ c. search needs) (λ c κs. search needs) returns returns-2)

@@ -21,13 +21,13 @@ before-third c =
 before-second : (c : tie.After-spread) → c .spread .last .0 ≡ box-numbers unit ++ staged (begin (c .before .before .before) .args .h) (begin (c .before .before .before) .args .coefficients .now) second
 before-second c =
     let w = c .before .before .before in
-    spread-on (begin w .args .h) (begin w .args .coefficients .now) third (w .weigh .last .0) (c .spread .last .0) (before-third w) (c .spread .ensures)
+    spread-on (begin w .args .h) (begin w .args .coefficients .now) (begin w .pre .0) third (w .weigh .last .0) (c .spread .last .0) (before-third w) (c .spread .ensures)
 
 before-first : (c : tie.After-spread2)
     → c .spread2 .last .0 ≡ box-numbers unit ++ staged (begin (c .before .before .before .before .before .before) .args .h) (begin (c .before .before .before .before .before .before) .args .coefficients .now) first
 before-first c =
     let d = c .before .before .before in let w = d .before .before .before in
-    spread-on (begin w .args .h) (begin w .args .coefficients .now) second (d .spread .last .0) (c .spread2 .last .0) (before-second d) (c .spread2 .ensures)
+    spread-on (begin w .args .h) (begin w .args .coefficients .now) (begin w .pre .0) second (d .spread .last .0) (c .spread2 .last .0) (before-second d) (c .spread2 .ensures)
 
 spread-requires : tie.Need-spread-requires
 spread-requires c κs =
@@ -48,7 +48,7 @@ returns : tie.Need-returns
 returns c =
     let e = c .before in let d = e .before .before .before in let s = begin (d .before .before .before .before .before .before) in
     start-is (s .args .h) (s .args .coefficients .now) (e .spread3 .last .0)
-    (spread-on (s .args .h) (s .args .coefficients .now) first (d .spread2 .last .0) (e .spread3 .last .0) (before-first d) (e .spread3 .ensures))
+    (spread-on (s .args .h) (s .args .coefficients .now) (s .pre .0) first (d .spread2 .last .0) (e .spread3 .last .0) (before-first d) (e .spread3 .ensures))
 
 weigh-requires : tie.Need-weigh-requires
 weigh-requires c κs = let t = table-weighs in search (needs, t)

@@ -21,32 +21,20 @@ returns-2 c =
     let s = c .before .before .before .before .before in
     rw (
       le-leb (s .args .s .waiting) (suc (depth (s .args .h))) (omega (arith, c .before .before .if1 .left, c .before .before .before .before .depth .ensures)),
-      lt-leb (s .args .s .kept) (s .args .room) (c .if2 .taken),
+      lt-leb (s .args .s .dropped) (s .args .s .visits) (c .if2 .taken),
     ) refl
 
 returns-3 : tie.Need-returns-3
 unfolding counts-ok
 returns-3 c =
-    let s = c .before .before .before .before .before .before .before in
-    let b = c .before .before in
-    rw (
-      le-leb (s .args .s .waiting) (suc (depth (s .args .h))) (omega (arith, b .before .before .if1 .left, b .before .before .before .before .depth .ensures)),
-      le-leb (s .args .s .kept) (s .args .room) (b .if2 .left),
-      lt-leb (s .args .s .dropped) (s .args .s .visits) (c .if3 .taken),
-    ) refl
-
-returns-4 : tie.Need-returns-4
-unfolding counts-ok
-returns-4 c =
-    let s = c .before .before .before .before .before .before .before .before in
+    let s = c .before .before .before .before .before .before in
     let b = c .before .before .before in
     rw (
-      le-leb (s .args .s .waiting) (suc (depth (s .args .h))) (omega (arith, b .before .before .if1 .left, b .before .before .before .before .depth .ensures)),
-      le-leb (s .args .s .kept) (s .args .room) (b .if2 .left),
-      le-leb (s .args .s .dropped) (s .args .s .visits) (c .before .if3 .left),
+      le-leb (s .args .s .waiting) (suc (depth (s .args .h))) (omega (arith, b .if1 .left, b .before .before .depth .ensures)),
+      le-leb (s .args .s .dropped) (s .args .s .visits) (c .before .if2 .left),
     ) refl
 
 pub counts-ok-spec : {M : Type 1} → statement M
 counts-ok-spec =
     tie.close
-    (tie.spec (λ c κs. search needs) (λ c. search needs) returns returns-2 returns-3 returns-4)
+    (tie.spec (λ c κs. search needs) (λ c. search needs) returns returns-2 returns-3)

@@ -4,6 +4,7 @@ use mathlib.Core.Path.{_∙_}
 use native.Mathlib.Omega.{arith}
 use borrow.Author.Needs.{needs}
 use lib.ListN.{length}
+use Rattle.waiting.specs.Cells.{boxed}
 use Rattle.waiting.specs.Runs.{way, went}
 use Rattle.waiting.proofs.Driving.{turns-left}
 use Rattle.runs.specs.Lists.{listed}
@@ -14,7 +15,7 @@ use Rattle.runs.proofs.plain.runs.run.Statement.{statement}
 use Rattle.runs.proofs.plain.runs.run.Tie as tie
 
 abbrev Inv-loop : tie.InvT-loop
-Inv-loop store₀ list₀ h budget n v c₀ store list c = Going h list₀ (length store₀) (went h (budget + 1) (way (listed list₀) store₀ c₀)) list store c
+Inv-loop store₀ list₀ h budget n v c₀ store list c = Going h list₀ (length store₀) (went (boxed h) (budget + 1) (way (listed list₀) store₀ c₀)) list store c
 
 abbrev μ-loop : tie.MeasureT-loop
 μ-loop store₀ list₀ h budget n v c₀ store list c = turns-left c
