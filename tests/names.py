@@ -1,9 +1,10 @@
 #!/usr/bin/env python3
 """Every name that the documents cite exists: `crate/File.name` in specs, `crate::path::name` in src, `crate!edit` in must-fail or teeth,
-and after "run:" a text of tests/cases or a program whose output the gate compares.
+and after "run:" a text of tests/cases or a program whose output the gate compares. And no file of specs/ or src/ cites proofs/: what a
+reader has to believe, and what contracts say, stands in specs/.
 
-    tests/names.py            checks docs/*.md and README.md, and prints how many names it found
-Ends with 1 and a line for each name that is nowhere.
+    tests/names.py            checks docs/*.md, README.md and the crates, and prints how many names it found
+Ends with 1 and a line for each name that is nowhere, and for each file that cites proofs/.
 """
 import pathlib
 import re
@@ -73,6 +74,13 @@ def runs_in(text):
             yield "run: " + name, in_runs(name)
 
 
+def citing_proofs():
+    """The files of specs/ and src/ that cite proofs/."""
+    for file in sorted([*ROOT.glob("crates/*/specs/**/*.antt"), *ROOT.glob("crates/*/src/**/*.rt")]):
+        if re.search(r"Rattle·[\w·]+\.proofs\b", file.read_text()):
+            yield f"{file.relative_to(ROOT)}: it cites proofs/"
+
+
 def main():
     count, missing = 0, []
     for document in [ROOT / "README.md", *sorted((ROOT / "docs").rglob("*.md"))]:
@@ -81,8 +89,9 @@ def main():
             count += 1
             if not there:
                 missing.append(f"{document.relative_to(ROOT)}: `{cited}` is nowhere")
-    print("\n".join(missing + [f"{count} names cited, {len(missing)} missing"]))
-    return 1 if missing else 0
+    citing = list(citing_proofs())
+    print("\n".join(missing + citing + [f"{count} names cited, {len(missing)} missing, {len(citing)} files cite proofs/"]))
+    return 1 if missing or citing else 0
 
 
 if __name__ == "__main__":

@@ -10,7 +10,7 @@ use Rattle.system.specs.declared.head.Checked.{Checked}
 use Rattle.waiting.specs.declared.cursor.Cursor.{Cursor}
 use Rattle.waiting.specs.declared.state.State.{State}
 use Rattle.waiting.specs.States.{judged-by, judged}
-use Rattle.waiting.proofs.Judging.{judged-long}
+use Rattle.waiting.proofs.Judging.{judged-by-number}
 use Rattle.waiting.specs.Steps.{begun}
 use Rattle.runs.specs.Runs.{opened}
 use Rattle.runs.specs.Lists.{listed}
@@ -32,7 +32,7 @@ opens h s budget xs st e f g = record { room = e; checked = f; begins = g }
 
 module _ {h : Head} {s : State} {budget : ℕ} {xs : List ℕ} {st : List ℤ} {n : ℕ} {v : Checked} {c : Cursor} (o : Opens h s budget xs st n v c) where
   pub same-verdict : v ≡ verdict h s xs st
-  same-verdict = o .checked ∙ ap (λ (n : ℕ). judged-by h s st (leb (s .kept) n)) (o .room) ∙ judged-long h s st (listed xs)
+  same-verdict = o .checked ∙ ap (λ (n : ℕ). judged-by h s st (leb (s .kept) n)) (o .room) ∙ judged-by-number h s st (listed xs)
 
   pub same-cursor : c ≡ opening h s budget xs st
   same-cursor = o .begins ∙ (λ i. opened (same-verdict i) (begun s budget (o .room i)))

@@ -22,7 +22,7 @@ use Rattle.slots.specs.Slots.{at, column, numbers, SpanFits}
 use Rattle.slots.specs.Rules.{every, within}
 use Rattle.search.specs.Lent.{slot}
 use Rattle.system.specs.Chain.{test, _then_}
-use Rattle.waiting.specs.States.{most, cuts, needed, span-ok, slot-ok, slots-ok, counts-ok, records-ok, list-ok, judged-by, judged, SlotAllowed, Judged-allowed}
+use Rattle.waiting.specs.States.{most, cuts, needed, span-ok, slot-ok, slots-ok, counts-ok, records-ok, list-ok, judged-by, judged, SlotAllowed, Judged-by-number, Judged-allowed}
 use Rattle.waiting.specs.declared.state.State.{State}
 use Rattle.waiting.specs.declared.cursor.Kept.{Kept}
 
@@ -136,8 +136,8 @@ list-says : (s : State) (list : List Kept) → Says (list-ok s list) (s .kept �
 unfolding list-ok
 list-says s list = records-says (s .kept) list
 
-pub judged-long : (h : Head) (s : State) (st : List ℤ) (list : List Kept) → judged-by h s st (leb (s .kept) (length list)) ≡ judged h s st list
-judged-long h s st list = ap (judged-by h s st) (says-same (le-says (s .kept) (length list)) (list-says s list))
+pub judged-by-number : Judged-by-number
+judged-by-number h s st list = ap (judged-by h s st) (says-same (le-says (s .kept) (length list)) (list-says s list))
 
 -- ---- the check
 pub judged-allowed : Judged-allowed

@@ -83,6 +83,10 @@ judged-by h s st listed =
 abbrev pub judged : Head → State → List ℤ → List Kept → Checked
 judged h s st list = judged-by h s st (list-ok s list)
 
+-- By the number of records `check` answers what is judged of them, whatever they are.
+abbrev pub Judged-by-number : Type 0
+Judged-by-number = (h : Head) (s : State) (st : List ℤ) (list : List Kept) → judged-by h s st (leb (s .kept) (length list)) ≡ judged h s st list
+
 -- ---- as facts
 pub record SlotAllowed (h : Head) (p : ℕ) (l : List ℤ) : Type 0 where
   pub spans : (r : Direction) → SpanFits (depths h ! r) (at l (column r)) (at l (column r + 1))

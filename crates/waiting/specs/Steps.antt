@@ -43,20 +43,24 @@ halted c w = record { go = false; state = c .state; left = c .left; room = c .ro
 abbrev pub gone-on : Cursor → State → ℕ → Kept → Cursor
 gone-on c s at kept = record { go = true; state = s; left = c .left - 1; room = c .room; at = at; kept = kept; word = c .word }
 
+-- ---- for an outcome
+-- the visit is made, unless the box would be kept and the list has no room
 abbrev pub for-room : (kept room : ℕ) → Outcome → Due
 for-room kept room (Outcome.Dropped p s) = Due.Visit (Outcome.Dropped p s)
 for-room kept room (Outcome.Kept mark) = cond (leb room kept) (Due.Stop Word.Full) (Due.Visit (Outcome.Kept mark))
 for-room kept room (Outcome.Cut r) = Due.Visit (Outcome.Cut r)
 
--- where its record goes: past the list's end, where none is kept
+-- where the record goes: past the list's end, where none is kept
 abbrev pub place-for : Cursor → Outcome → ℕ
 place-for c (Outcome.Dropped p s) = c .room
 place-for c (Outcome.Kept mark) = c .state .kept
 place-for c (Outcome.Cut r) = c .room
 
+-- what stands for a visit where none was made
 abbrev pub no-visit : Visit
 no-visit = record { at = from-box unit; what = Outcome.Kept 0 }
 
+-- what a step leaves
 pub record Next (A : Type 0) : Type 0 where
   pub cursor : Cursor
   pub store : List A

@@ -40,7 +40,7 @@ use Rattle.waiting.specs.declared.cursor.Kept.{Kept}
 use Rattle.waiting.specs.declared.cursor.Cursor.{Cursor}
 use Rattle.waiting.specs.declared.state.State.{State}
 use Rattle.waiting.specs.States.{judged-by, judged}
-use Rattle.waiting.proofs.Judging.{judged-long}
+use Rattle.waiting.proofs.Judging.{judged-by-number}
 use Rattle.waiting.specs.Cells.{boxed}
 use Rattle.waiting.specs.Steps.{Ready, begun, next}
 use Rattle.waiting.specs.Runs.{Way, turned}
@@ -130,7 +130,7 @@ module _ {M : Type 1} (𝓤 : URA M) (H : Heap 𝓤) (A : Atoms 𝓤) (W : Given
       sets ! 4 (target ! 4 refl refl tt refl) refl (tt, tt) $ sets ! 4 (agg ! (and-then ! (local ! 4 refl) (and-then ! (field ! 4 refl refl tt) (no-more !)))) refl (slice-typed i64 (b, o) room₁) $
       calls-shown ! (fmOf 𝓤 H (W .laws) 𝓣) (Check 𝓤 H A mem run) (known .check-met) i64 b o m st
       (λ ν δ. (((ν ∷ [], tt), (fullShare, tt), tt, (h, (s, (record { ptr = (b, o); name = δ; now = st }, (n, tt)))), (head .val h ∷ [], (state .val s ∷ [], (sliceVal (b, o) m ∷ [], (vint w64 n ∷ [], tt))))), tt)) verdict v refl room₁
-      (λ ν δ. hands 𝓤 H A W (ν ∷ []) fullShare (seen i64 (ν ∷ []) b o m δ st) (head ∷ state ∷ []) (h, (s, tt)) (number w64 ∷ []) (n, tt) (fit .0, (fit .1 .0, tt)) ((refl, room₂ .0), tt) (id⊢ 𝓤 _)) (λ ν δ. gives-data 𝓤 H A W verdict (Token 𝓤 H A (ν ∷ []) fullShare) 4 (λ r. r ≡ judged-by h s st (leb (s .kept) n)) v (λ r e. e ∙ judged-long h s st list))
+      (λ ν δ. hands 𝓤 H A W (ν ∷ []) fullShare (seen i64 (ν ∷ []) b o m δ st) (head ∷ state ∷ []) (h, (s, tt)) (number w64 ∷ []) (n, tt) (fit .0, (fit .1 .0, tt)) ((refl, room₂ .0), tt) (id⊢ 𝓤 _)) (λ ν δ. gives-data 𝓤 H A W verdict (Token 𝓤 H A (ν ∷ []) fullShare) 4 (λ r. r ≡ judged-by h s st (leb (s .kept) n)) v (λ r e. e ∙ judged-by-number h s st list))
       (λ ν δ. and-then ! (local ! 4 refl) (and-then ! (local ! 4 refl) (and-then ! (local ! 4 refl) (and-then ! (local ! 4 refl) (no-more !))))) (λ v-is. receives ! 4 refl (typed verdict 𝓤 H A W v v-is .0) $
       -- `open(v, s, budget, room)`
       calls-plain ! (fmOf 𝓤 H (W .laws) 𝓣) (Open 𝓤 H A mem run) (known .open-met) ((tt, tt, tt, (v, (s, (budget, (n, tt)))), (verdict .val v ∷ [], (state .val s ∷ [], (vint w32 budget ∷ [], (vint w64 n ∷ [], tt))))), tt) cursor (opened v (begun s budget n))
