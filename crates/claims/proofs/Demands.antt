@@ -11,7 +11,7 @@ use Rattle.boxes.specs.declared.visit.Sign.{Sign}
 use Rattle.boxes.specs.declared.half.Direction.{Direction}
 use Rattle.boxes.specs.Boxes.{direction}
 use Rattle.system.specs.Heads.{width, Limits}
-use Rattle.slots.specs.Slots.{unit-slot}
+use Rattle.slots.specs.Slots.{box-in, unit-slot}
 use Rattle.slots.specs.Rules.{looked}
 use Rattle.search.specs.Lists.{All}
 use Rattle.search.specs.Search.{Look, Visit, is-dropped, is-kept}
@@ -31,13 +31,13 @@ use Rattle.claims.proofs.Calls.{kept-up, root, good}
 
 -- ---- 2
 -- what holds of every waiting cell holds of every slot below the count
-slot-of : (P : List ℤ → Type 0) (w c : ℕ) (st : List ℤ) → All P (stack w c st) → (p : ℕ) → p < c → P (slot w p st)
+pub slot-of : (P : List ℤ → Type 0) (w c : ℕ) (st : List ℤ) → All P (stack w c st) → (p : ℕ) → p < c → P (slot w p st)
 unfolding stack
 slot-of P w zero st a p h = absurd (omega arith)
 slot-of P w (suc c) st a p h =
     by-lt p c (λ l. slot-of P w c st (a .1) p l) (λ l. let e : c ≡ p = omega arith in subst (λ (k : ℕ). P (slot w k st)) e (a .0))
 
-all-map : {A : Type 0} (P Q : A → Type 0) → ((x : A) → P x → Q x) → (l : List A) → All P l → All Q l
+pub all-map : {A : Type 0} (P Q : A → Type 0) → ((x : A) → P x → Q x) → (l : List A) → All P l → All Q l
 all-map P Q f [] a = tt
 all-map P Q f (x ∷ l) a = (f x (a .0), all-map P Q f l (a .1))
 
@@ -77,14 +77,14 @@ counts-of-visits h cs st e f b budget = counted (cells h) (kept-up h cs st e) f 
 pub no-zero-lost : No-zero-lost
 no-zero-lost h cs st e f b budget x i z = good-after (cells h) (kept-up h cs st e) f (good h cs st e f b) budget .zeros x (i, z)
 
-one-sign : (h : Head) → Limits h → (cs : List ℤ) (v : Visit (slots (cells h))) → SeenBy (slots (cells h)) (Fit h cs) v → (p : ℕ) (s : Sign) → v .what ≡ is-dropped (p, s) → OneSign h cs (v .node) p s
+pub one-sign : (h : Head) → Limits h → (cs : List ℤ) (v : Visit (slots (cells h))) → SeenBy (slots (cells h)) (Fit h cs) v → (p : ℕ) (s : Sign) → v .what ≡ is-dropped (p, s) → OneSign h cs (box-in (v .node)) p s
 one-sign h m cs v k p s e =
     let d = drop-signs h m cs (v .node) p s (k .looked ∙ e) (k .fit) in
     record { which = d .which; below = d .below; named = d .number; signs = sign-at h m cs (v .node) p s d (k .fit) }
 
 pub dropped-one-sign : Dropped-one-sign
 dropped-one-sign h cs st e f b budget =
-    all-map (SeenBy (slots (cells h)) (Fit h cs)) (λ v. (p : ℕ) (s : Sign) → v .what ≡ is-dropped (p, s) → OneSign h cs (v .node) p s) (λ v k. one-sign h (start-passes h cs st e .limits) cs v k)
+    all-map (SeenBy (slots (cells h)) (Fit h cs)) (λ v. (p : ℕ) (s : Sign) → v .what ≡ is-dropped (p, s) → OneSign h cs (box-in (v .node)) p s) (λ v k. one-sign h (start-passes h cs st e .limits) cs v k)
     (visits-made h budget f) (seen-by (cells h) (kept-up h cs st e) f (good h cs st e f b) budget)
 
 pub longer-goes-on : Longer-goes-on

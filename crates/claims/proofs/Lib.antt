@@ -8,3 +8,4 @@ pub mod Caller
 pub mod Reached
 pub mod Program
 pub mod Stores
+pub mod Told

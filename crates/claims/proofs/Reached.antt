@@ -142,7 +142,7 @@ module _ (h : Head) (cs st : List ℤ) where
         same = ap (λ (l : List (Entry Box)). memory (f .store) l (f .waiting) (f .kept) (f .visits) (f .dropped)) (sym begins)
 
 -- ---- along the caller's calls
-as-shown : (P : State → List Kept → List ℤ → Type 0) (f : Memory) (s : State) (list : List Kept) (store : List ℤ) → Shows f s list store
+pub as-shown : (P : State → List Kept → List ℤ → Type 0) (f : Memory) (s : State) (list : List Kept) (store : List ℤ) → Shows f s list store
     → P (state-of f) (map forget (f .list)) (f .store) → P s list store
 as-shown P f s list store w p = subst (λ (x : State). P x list store) (w .state)
     (subst (λ (l : List Kept). P (state-of f) l store) (w .list-is) (subst (λ (k : List ℤ). P (state-of f) (map forget (f .list)) k) (w .store-is) p))

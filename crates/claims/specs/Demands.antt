@@ -79,15 +79,15 @@ No-zero-lost = EveryCall (λ h cs f budget. (x : Point) → LiesIn h x unit → 
     → Held (slots (cells h)) (LiesIn h) x (boxes-of h (called h budget f .state)))
 
 -- "each dropped box has one polynomial with the same strict sign at all its rational points": the polynomial that is named, with the sign that is named
-pub record OneSign (h : Head) (cs l : List ℤ) (p : ℕ) (s : Sign) : Type 0 where
+pub record OneSign (h : Head) (cs : List ℤ) (b : Box) (p : ℕ) (s : Sign) : Type 0 where
   pub which : ℕ
   pub below : which < h .m
   pub named : p ≡ 1 + which
-  pub signs : (x : Point) → LiesIn h x (box-in l) → Has (sign s) (frame h .value (x .numerators) (x .q) (polynomial h cs which))
+  pub signs : (x : Point) → LiesIn h x b → Has (sign s) (frame h .value (x .numerators) (x .q) (polynomial h cs which))
 
 abbrev pub Dropped-one-sign : Type 0
 Dropped-one-sign = EveryCall (λ h cs f budget.
-    All (λ v. (p : ℕ) (s : Sign) → v .what ≡ is-dropped (p, s) → OneSign h cs (v .node) p s) (visits-made h budget f))
+    All (λ v. (p : ℕ) (s : Sign) → v .what ≡ is-dropped (p, s) → OneSign h cs (box-in (v .node)) p s) (visits-made h budget f))
 
 -- "Of two runs made in one call each, for the same system and depths, the one given at least as many visits and as much list room begins its kept list with the
 -- other's whole list, and each of its kept or waiting boxes lies inside a kept or waiting box of the other"

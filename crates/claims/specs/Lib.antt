@@ -9,3 +9,4 @@ pub mod Caller
 pub mod Reached
 pub mod Program
 pub mod Starred
+pub mod Told
