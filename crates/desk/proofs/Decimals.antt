@@ -54,11 +54,11 @@ pub decimal-length : (n : ℕ) → 10 ≤ n → length (decimal n) ≡ length (d
 decimal-length n h = ap length (decimal-more n h) ∙ length-append (decimal (n / 10)) (digit (n % 10))
 
 -- a number below 10^(k+1) has at most k + 1 digits
-pub decimal-short : As-few
-decimal-short zero n h = let e : length (decimal n) ≡ 1 = ap length (decimal-one n (omega arith)) in omega arith
-decimal-short (suc k) n h =
+pub as-few : As-few
+as-few zero n h = let e : length (decimal n) ≡ 1 = ap length (decimal-one n (omega arith)) in omega arith
+as-few (suc k) n h =
     ⊎-elim (λ (s : n < 10). let e : length (decimal n) ≡ 1 = ap length (decimal-one n s) in omega arith)
-    (λ (m : 10 ≤ n). let i : length (decimal (n / 10)) ≤ suc k = decimal-short k (n / 10) (omega (arith, pow-suc 10 (suc k))) in omega (arith, decimal-length n m))
+    (λ (m : 10 ≤ n). let i : length (decimal (n / 10)) ≤ suc k = as-few k (n / 10) (omega (arith, pow-suc 10 (suc k))) in omega (arith, decimal-length n m))
     (one-or-more n)
 
 -- ---- read back
@@ -80,8 +80,8 @@ value-decimal (suc f) n p =
     ap (value 0) (decimal-more n h) ∙ value-last 0 (decimal (n / 10)) (48 + n % 10) ∙ omega arith)
     (one-or-more n)
 
-pub decimal-back : Says-back
-decimal-back n = value-decimal n n (omega arith)
+pub says-back : Says-back
+says-back n = value-decimal n n (omega arith)
 
 -- ---- put into a target
 module _ (t : List ℕ) (at n : ℕ) (fit : at + length (decimal n) ≤ length t) where

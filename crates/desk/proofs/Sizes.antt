@@ -10,13 +10,13 @@ use Rattle.boxes.specs.declared.visit.Word.the-variants.{Finished, Spent, Full}
 use Rattle.waiting.specs.declared.cursor.Kept.{Kept}
 use Rattle.runs.specs.Lists.{first, taken}
 use Rattle.desk.specs.Text.{decimal, ended, line}
-use Rattle.desk.proofs.Decimals.{decimal-short}
+use Rattle.desk.proofs.Decimals.{as-few}
 use Rattle.desk.specs.Lines.{word, refused, at, refused-line, stop-line, kept-line, kept-lines}
 
 -- one more number, of at most k + 1 digits
 ended-one : (k n : ℕ) (ws : List (List ℕ)) → n < 10 ^ suc k → length (ended (decimal n ∷ ws)) ≤ 2 + k + length (ended ws)
 unfolding ended
-ended-one k n ws h = omega (arith, length-append (decimal n) (ended ws), decimal-short k n h)
+ended-one k n ws h = omega (arith, length-append (decimal n) (ended ws), as-few k n h)
 
 ended-none : length (ended []) ≡ 1
 unfolding ended
@@ -52,9 +52,9 @@ refused-short n o hn ho =
       arith,
       length-append (decimal n) (32 ∷ (at ++ (32 ∷ (decimal o ++ (10 ∷ []))))),
       length-append (decimal o) (10 ∷ []),
-      decimal-short 19 n
+      as-few 19 n
           (omega arith),
-      decimal-short 19 o (omega arith),
+      as-few 19 o (omega arith),
     )
 
 -- ---- numbers of the list
@@ -74,7 +74,7 @@ kept-short xs small =
     omega (
       arith,
       length-append (decimal a) (ended (decimal b ∷ decimal c ∷ decimal d ∷ decimal e ∷ decimal f ∷ decimal g ∷ [])),
-      decimal-short 4 a (omega (arith, small 0)),
+      as-few 4 a (omega (arith, small 0)),
       ended-one 4 b (decimal c ∷ decimal d ∷ decimal e ∷ decimal f ∷ decimal g ∷ []) (omega (arith, small 1)),
       ended-one 4 c (decimal d ∷ decimal e ∷ decimal f ∷ decimal g ∷ []) (omega (arith, small 2)),
       ended-one 4 d (decimal e ∷ decimal f ∷ decimal g ∷ []) (omega (arith, small 3)),
