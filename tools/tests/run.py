@@ -33,6 +33,10 @@ def test_program(checks, program):
 
     for name, expected in test_draw.ANSWERS.items():
         checks.same("desk program on " + name, answer(example(name + ".sys")), expected)
+    for name, first in test_draw.STOPPED.items():
+        lines = answer(example(name + ".sys")).split("\n")
+        checks.same("first line of the desk program on " + name, lines[0], first)
+        checks.same("boxes of the desk program on " + name, len(lines) - 2, int(first.split()[3]))
     for what, data, number, offset in test_file.REFUSED:
         checks.same("desk program on " + what, answer(data),
                     "refused %d at %d\n" % (number, offset))

@@ -19,6 +19,8 @@ ANSWERS = {
     "probes": "finished 109 51 4 0\n8 118 8 193 0 0 1\n8 118 8 194 0 0 1\n8 134 8 95 0 0 1\n"
               "8 134 8 96 0 0 1\n",
 }
+# The first line where it stops before the search ends: its list has room for 1,024 boxes, its budget is 1,000,000 visits.
+STOPPED = {"arc": "full 5242 1593 1024 9", "near": "spent 1000000 499995 0 11"}
 SPENT = "spent 30 14 0 3\n"
 SPENT_WAITING = SPENT + "waiting 2 3 1 1 0 0\nwaiting 2 2 2 3 0 0\nwaiting 4 11 4 11 0 0\n"
 FULL = "full 5 1 1 2\n2 1 0 0 0 0 1\n"
@@ -67,6 +69,8 @@ def test_examples(checks):
         readme = file.read()
     for name, answer in ANSWERS.items():
         checks.true("answer of %s in README.md" % name, "```\n" + answer + "```" in readme)
+    for name, first in STOPPED.items():
+        checks.true("first line of %s in README.md" % name, "```\n" + first + "\n" in readme)
 
 
 def test_boxes(checks):

@@ -8,12 +8,12 @@ use lib.IntN.{ℤ, pos, _+ℤ_, _*ℤ_}
 use lib.Signed.{_≤ℤ_, _<ℤ_}
 use Rattle.whole.specs.Half.{Half, lower, upper}
 use Rattle.whole.proofs.Quote.{ring, reads}
-use Rattle.whole.proofs.Order.{≤ℤ-or-<ℤ, <ℤ-≤ℤ, +ℤ-mono}
+use Rattle.whole.proofs.Order.{≤ℤ-or-<ℤ, <ℤ-≤ℤ, ≡-≤ℤ, ≤ℤ-intro, +ℤ-mono}
 use Rattle.whole.proofs.Lin.{≤⇒, ≤⇐}
 use Rattle.bernstein.specs.Three.{_!_}
 use Rattle.bernstein.specs.Numbers.{Span, half-span, half-box}
 use Rattle.bernstein.specs.Points.{Inside, Within}
-use Rattle.bernstein.specs.Claims.{Halves-cover, Halves-inside}
+use Rattle.bernstein.specs.Claims.{Ends-inside, Halves-cover, Halves-inside}
 use Rattle.bernstein.proofs.Lines.{grid, low, high, high-is}
 use Rattle.bernstein.proofs.Nested.{replaced, put-back}
 
@@ -76,6 +76,16 @@ module _ (i : Span) (X q : ℤ) where
 
   pub span-inside : (h : Half) → Inside (half-span h i) X q → Inside i X q
   span-inside h w = edges i refl refl .1 (back h (grid i *ℤ X) (low i *ℤ q) q (in-half h .0 w))
+
+-- ---- both ends, over q = 2^s
+pub ends-inside : Ends-inside
+ends-inside i = (
+  edges i (low i) (grid i) i (around (low i)) refl .1 (≡-≤ℤ refl, ≤ℤ-intro (2 ^ i .cuts) refl),
+  edges i (high i) (grid i) i (around (high i) ∙ high-edge i (grid i)) refl .1 (≤ℤ-intro (2 ^ i .cuts) refl, ≡-≤ℤ refl),
+)
+  where
+    around : (z : ℤ) → grid i *ℤ z ≡ z *ℤ grid i
+    around z = ring (grid i ∷ z ∷ []) (search reads depth 20) tt
 
 -- ---- in three directions
 pub halves-cover : Halves-cover

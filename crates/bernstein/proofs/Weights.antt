@@ -2,12 +2,12 @@
 -- table, so both are one computed test. Assumes nothing.
 use mathlib.Core.Path.{_≡_}
 use mathlib.Core.Bool.{Bool, false, cond}
-use Prim.Native.Nat.{ℕ, _+_, _*_, _-_, _≤_, _<_}
+use Prim.Native.Nat.{ℕ, zero, suc, _+_, _*_, _-_, _≤_, _<_}
 use native.Mathlib.Omega.{arith}
 use lib.Dec.{T, eqb, ltb, leb, eqb→eq, ltb→lt, le→leb}
 use Rattle.whole.specs.Sums.{choose}
 use Rattle.bernstein.specs.Numbers.{scale, weight}
-use Rattle.bernstein.specs.Claims.{Weights-whole}
+use Rattle.bernstein.specs.Claims.{Weights-whole, Multiple, Scale-least}
 use Rattle.bernstein.proofs.Tests.{both, implied, implied-at}
 
 -- ---- whole weights w of the scale S
@@ -41,3 +41,30 @@ weights n h = record { some = ltb→lt _ _ (at 0 0 (omega arith) .0); whole = λ
 
 pub weights-whole : Weights-whole
 weights-whole n i h l = weights n h .whole i l
+
+-- ---- the least common multiple: the scale is one of the C(n, i), or a difference of multiples of two of them (12 is 3 · 4 and 2 · 6, 60 is 4 · 15 and 3 · 20)
+multiple-of : (d k c : ℕ) → k ≡ c * d → Multiple d k
+multiple-of d k c e = record { times = c; is = e }
+
+by-two : (k a b : ℕ) → k ≡ a * 4 → k ≡ b * 6 → k ≡ (a - b) * 12
+by-two k a b e f = omega arith
+
+by-three : (k a b : ℕ) → k ≡ a * 15 → k ≡ b * 20 → k ≡ (a - b) * 60
+by-three k a b e f = omega arith
+
+pub scale-least : Scale-least
+unfolding scale choose
+scale-least zero k h m = m 0 (omega arith)
+scale-least (suc zero) k h m = m 0 (omega arith)
+scale-least (suc (suc zero)) k h m = m 1 (omega arith)
+scale-least (suc (suc (suc zero))) k h m = m 1 (omega arith)
+scale-least (suc (suc (suc (suc zero)))) k h m =
+    let four = m 1 (omega arith) in
+    let six = m 2 (omega arith) in
+    multiple-of 12 k (four .times - six .times) (by-two k (four .times) (six .times) (four .is) (six .is))
+scale-least (suc (suc (suc (suc (suc zero))))) k h m = m 2 (omega arith)
+scale-least (suc (suc (suc (suc (suc (suc zero)))))) k h m =
+    let fifteen = m 2 (omega arith) in
+    let twenty = m 3 (omega arith) in
+    multiple-of 60 k (fifteen .times - twenty .times) (by-three k (fifteen .times) (twenty .times) (fifteen .is) (twenty .is))
+scale-least (suc (suc (suc (suc (suc (suc (suc n))))))) k h m = absurd (omega arith)

@@ -2,19 +2,27 @@
 -- The proofs are in proofs/; each is named as its statement.
 use mathlib.Core.Path.{_≡_}
 use mathlib.Core.Logic.{_⊎_}
-use Prim.Native.Nat.{ℕ, _+_, _*_, _^_, _≤_, _<_}
+use Prim.Native.Nat.{ℕ, suc, _+_, _*_, _^_, _≤_, _<_}
 use lib.IntN.{ℤ, pos, natAbs, _+ℤ_, _*ℤ_}
 use lib.Signed.{_<ℤ_}
 use Rattle.whole.specs.Half.{Half, lower, upper}
 use Rattle.whole.specs.Sums.{choose}
 use Rattle.bernstein.specs.Three.{Direction, Three, three, _!_, replace, Upto, product}
 use Rattle.bernstein.specs.Numbers.{Degrees, Small, Index, Patch, Span, Box, unit, half-box, scale, weight, moved, formula, Exact, half-patch, Cuttable, Stored}
-use Rattle.bernstein.specs.Points.{Within, value-over, value, bernstein-value, Sign, Has, All-have}
+use Rattle.bernstein.specs.Points.{Inside, Within, value-over, value, bernstein-value, Sign, Has, All-have}
 use Rattle.bernstein.specs.Places.{place, size, index, stride}
 
 -- "Scale: .. the least common multiple": a multiple of each C(n, i), so that the weights are whole.
 abbrev pub Weights-whole : Type 0
 Weights-whole = (n i : ℕ) → n ≤ 6 → i ≤ n → choose n i * weight n i ≡ scale n
+
+-- and the least one: whatever is a multiple of each C(n, i) is a multiple of the scale.
+pub record Multiple (d k : ℕ) : Type 0 where
+  pub times : ℕ
+  pub is : k ≡ times * d
+
+abbrev pub Scale-least : Type 0
+Scale-least = (n k : ℕ) → n ≤ 6 → ((i : ℕ) → i ≤ n → Multiple (choose n i) k) → Multiple (scale n) k
 
 -- "Bernstein coefficient at J on the unit box (004, formula 2)": there the stored numbers are formula (2) times the scale.
 abbrev pub Start-exact : Type 0
@@ -28,6 +36,10 @@ Cut-exact = (n : Degrees) → Small n → (a p : Patch) (b : Box) → Exact n b 
 abbrev pub Sign-holds : Type 0
 Sign-holds = (n : Degrees) → Small n → (a p : Patch) (b : Box) → Exact n b a p → (s : Sign) → All-have s n p
     → (X : Three ℤ) (q : ℤ) → pos 0 <ℤ q → Within b X q → Has s (value n X q a)
+
+-- "It is the closed interval from k/2^s to (k+1)/2^s": both ends lie in it.
+abbrev pub Ends-inside : Type 0
+Ends-inside = (i : Span) → Inside i (pos (i .position)) (pos (2 ^ i .cuts)) × Inside i (pos (suc (i .position))) (pos (2 ^ i .cuts))
 
 -- A point of a box lies in its lower or in its upper half, and a point of a half in the box.
 abbrev pub Halves-cover : Type 0

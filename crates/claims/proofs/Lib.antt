@@ -9,3 +9,4 @@ pub mod Reached
 pub mod Program
 pub mod Stores
 pub mod Told
+pub mod Meets

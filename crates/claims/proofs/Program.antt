@@ -31,19 +31,20 @@ use Rattle.runs.specs.Runs.{Run, run-of}
 use Rattle.file.specs.Bytes.{byte, Bytes}
 use Rattle.file.specs.Reading.{reads}
 use Rattle.file.specs.declared.reading.Answer as Read
+use Rattle.file.proofs.Lengths.{front-decides}
 use Rattle.file.specs.declared.reading.Answer.the-variants.{System, Refused as Not-read}
 use Rattle.writing.specs.Writing.{all-in-range}
 use Rattle.writing.proofs.Claims.{in-limits}
 use Rattle.runs.specs.Lists.{first, taken, listed}
 use Rattle.desk.specs.Text.{line}
 use Rattle.desk.specs.Lines.{word, refusal-line, stop-line, kept-lines, told}
-use Rattle.desk.specs.Report.{Found, run-found, system-found, found, report}
+use Rattle.desk.specs.Report.{Found, run-found, system-found, read-found, file-found, found, report}
 use Rattle.desk.proofs.Finding.{found-begun, found-read, found-unread}
 use Rattle.desk.proofs.Room.{room-enough}
 use Rattle.claims.specs.Calls.{Memory, fresh, called, Begun, boxes-of}
 use Rattle.claims.specs.Caller.{Gives}
 use Rattle.claims.specs.Reached.{Reached, by-start, by-run}
-use Rattle.claims.specs.Program.{no-coefficients, empty-store, free, program-call, Prints-refusal, lines-of, Prints-a-run, finished-lines, Whole, Prints-finished}
+use Rattle.claims.specs.Program.{no-coefficients, empty-store, free, program-call, Prints-refusal, lines-of, Prints-a-run, finished-lines, Whole, Prints-finished, Prints-of-the-front}
 use Rattle.search.specs.Lent.{at-start}
 use Rattle.search.proofs.Calls.{good-after}
 use Rattle.claims.proofs.Calls.{kept-up, good, good-judged}
@@ -118,6 +119,11 @@ module _ (budget : ℕ) (h : Head) (cs st : List ℤ) (e : start-check h cs st �
 pub prints-refusal : Prints-refusal
 unfolding report found
 prints-refusal s x e = ap printed (sym (found-unread 1000000 s no-coefficients empty-store free-list (reads s no-coefficients .0) refl x e))
+
+pub prints-of-the-front : Prints-of-the-front
+unfolding report found file-found
+prints-of-the-front s =
+    ap (λ (r : Read.Answer × List ℤ). printed (read-found 1000000 (r .0) (r .1) empty-store free-list)) (front-decides s no-coefficients 4096 (omega arith))
 
 pub prints-a-run : Prints-a-run
 unfolding report found

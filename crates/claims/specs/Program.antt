@@ -4,7 +4,7 @@ use mathlib.Core.Path.{_≡_}
 use mathlib.Core.List.{List, [], _∷_, map, _++_}
 use Prim.Native.Nat.{ℕ, _*_}
 use lib.IntN.{ℤ, pos}
-use lib.ListN.{length, replicate}
+use lib.ListN.{length, take, replicate}
 use Rattle.bernstein.specs.Numbers.{Box, unit}
 use Rattle.system.specs.declared.head.Head.{Head}
 use Rattle.system.specs.declared.head.Checked.{Checked}
@@ -94,3 +94,28 @@ F-lines =
 
 abbrev pub Prints-F : Type 0
 Prints-F = report F-file ≡ F-lines
+
+-- ---- 10y - 3 and 20z - 11 in three variables, to the depths 0, 2 and 3: no two of the counts printed are equal, and with F's lines no two places of a box's line
+-- can be exchanged
+abbrev pub three-file : List ℕ
+three-file =
+    8 ∷ 0 ∷ 1 ∷ 0 ∷ 3 ∷ 2 ∷ 0 ∷ 1 ∷ 1 ∷ 0 ∷ 2 ∷ 3
+    ∷ 15 ∷ 0 ∷ 2 ∷ 0 ∷ 1 ∷ 0 ∷ 0 ∷ 0 ∷ 253 ∷ 255 ∷ 255 ∷ 255 ∷ 0 ∷ 1 ∷ 0 ∷ 10 ∷ 0 ∷ 0 ∷ 0
+    ∷ 15 ∷ 0 ∷ 2 ∷ 0 ∷ 2 ∷ 0 ∷ 0 ∷ 0 ∷ 245 ∷ 255 ∷ 255 ∷ 255 ∷ 0 ∷ 0 ∷ 1 ∷ 20 ∷ 0 ∷ 0 ∷ 0
+    ∷ 0 ∷ 0 ∷ 3 ∷ 0 ∷ []
+
+abbrev pub three-lines : List ℕ
+three-lines =
+    102 ∷ 105 ∷ 110 ∷ 105 ∷ 115 ∷ 104 ∷ 101 ∷ 100 ∷ 32 ∷ 49 ∷ 49 ∷ 32 ∷ 53 ∷ 32 ∷ 49 ∷ 32 ∷ 48 ∷ 10
+    ∷ 48 ∷ 32 ∷ 48 ∷ 32 ∷ 50 ∷ 32 ∷ 49 ∷ 32 ∷ 51 ∷ 32 ∷ 52 ∷ 32 ∷ 49 ∷ 10 ∷ []
+
+abbrev pub Prints-three : Type 0
+Prints-three = report three-file ≡ three-lines
+
+-- ---- "Reads up to 4,096 bytes of standard input": of a longer input the same is printed as if all of it were read
+abbrev pub Prints-of-the-front : Type 0
+Prints-of-the-front = (s : List ℕ) → report (take 4096 s) ≡ report s
+
+-- ---- "An empty file: 1 at 0"
+abbrev pub Prints-of-no-bytes : Type 0
+Prints-of-no-bytes = report [] ≡ (114 ∷ 101 ∷ 102 ∷ 117 ∷ 115 ∷ 101 ∷ 100 ∷ 32 ∷ 49 ∷ 32 ∷ 97 ∷ 116 ∷ 32 ∷ 48 ∷ 10 ∷ [])

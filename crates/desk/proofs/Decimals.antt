@@ -1,5 +1,5 @@
 -- The decimal digits of a number: the last one behind those of a tenth, how many there are, and how they are put. Assumes nothing.
-use mathlib.Core.Path.{_≡_, refl, sym, ap, _∙_}
+use mathlib.Core.Path.{_≡_, refl, sym, ap, subst, _∙_}
 use mathlib.Core.Bool.{Bool, true, false}
 use mathlib.Core.List.{List, [], _∷_, _++_}
 use mathlib.Core.Logic.{_⊎_, inl, inr, ⊎-elim}
@@ -8,10 +8,10 @@ use native.Mathlib.Omega.{arith}
 use native.Mathlib.Nat.{pow-suc}
 use borrow.Author.Tests.{lt-ltb, le-ltb, ltb-true, ltb-false}
 use lib.Dec.{ltb}
-use lib.ListN.{length, set, length-append}
+use lib.ListN.{length, getD, set, length-append, List·getD-append}
 use Rattle.file.specs.Bytes.{over}
 use Rattle.file.proofs.Putting.{put1, over-over, over-length}
-use Rattle.desk.specs.Text.{digit, digits, decimal, value, Says-back, As-few}
+use Rattle.desk.specs.Text.{digit, digits, decimal, value, Says-back, Only-digits, No-leading-zero, As-few}
 
 one-or-more : (n : ℕ) → (n < 10) ⊎ (10 ≤ n)
 one-or-more n = from (ltb n 10) refl
@@ -82,6 +82,58 @@ value-decimal (suc f) n p =
 
 pub says-back : Says-back
 says-back n = value-decimal n n (omega arith)
+
+-- ---- each is a digit
+abbrev Is-digit : ℕ → Type 0
+Is-digit d = (48 ≤ d) × (d ≤ 57)
+
+pub record Digits (ds : List ℕ) : Type 0 where
+  pub each : (i : ℕ) → i < length ds → Is-digit (getD ds i 0)
+
+one-digit : (d : ℕ) → d < 10 → Digits (digit d)
+one-digit d h = record { each = at }
+  where
+    at : (i : ℕ) → i < 1 → Is-digit (getD (digit d) i 0)
+    at zero l = (omega arith, omega arith)
+    at (suc i) l = absurd (omega arith)
+
+behind : (ds : List ℕ) (d : ℕ) → d < 10 → Digits ds → Digits (ds ++ digit d)
+behind [] d h g = one-digit d h
+behind (e ∷ ds) d h g = record { each = at (behind ds d h (record { each = λ k b. g .each (suc k) (omega arith) })) }
+  where
+    at : Digits (ds ++ digit d) → (i : ℕ) → i < length (e ∷ (ds ++ digit d)) → Is-digit (getD (e ∷ (ds ++ digit d)) i 0)
+    at w zero l = g .each 0 (omega arith)
+    at w (suc i) l = w .each i (omega arith)
+
+decimal-digits : (f n : ℕ) → n ≤ f → Digits (decimal n)
+decimal-digits zero n p = subst Digits (sym (decimal-one n (omega arith))) (one-digit n (omega arith))
+decimal-digits (suc f) n p =
+    ⊎-elim (λ (h : n < 10). subst Digits (sym (decimal-one n h)) (one-digit n h))
+    (λ (h : 10 ≤ n). subst Digits (sym (decimal-more n h)) (behind (decimal (n / 10)) (n % 10) (omega arith) (decimal-digits f (n / 10) (omega arith))))
+    (one-or-more n)
+
+pub only-digits : Only-digits
+only-digits n i l = decimal-digits n n (omega arith) .each i l
+
+-- ---- the first
+some-digit : (n : ℕ) → 0 < length (decimal n)
+some-digit n =
+    ⊎-elim (λ (h : n < 10). let e : length (decimal n) ≡ 1 = ap length (decimal-one n h) in omega arith)
+    (λ (h : 10 ≤ n). omega (arith, decimal-length n h))
+    (one-or-more n)
+
+first-digit : (f n : ℕ) → n ≤ f → 0 < n → 48 < getD (decimal n) 0 0
+first-digit zero n p q = absurd (omega arith)
+first-digit (suc f) n p q =
+    ⊎-elim (λ (h : n < 10). let e : getD (decimal n) 0 0 ≡ 48 + n = ap (λ (ds : List ℕ). getD ds 0 0) (decimal-one n h) in omega arith)
+    (λ (h : 10 ≤ n).
+    let e : getD (decimal n) 0 0 ≡ getD (decimal (n / 10)) 0 0
+    = ap (λ (ds : List ℕ). getD ds 0 0) (decimal-more n h) ∙ List·getD-append (decimal (n / 10)) (digit (n % 10)) 0 0 (some-digit (n / 10)) in
+    omega (arith, e, first-digit f (n / 10) (omega arith) (omega arith)))
+    (one-or-more n)
+
+pub no-leading-zero : No-leading-zero
+no-leading-zero n h = first-digit n n (omega arith) h
 
 -- ---- put into a target
 module _ (t : List ℕ) (at n : ℕ) (fit : at + length (decimal n) ≤ length t) where

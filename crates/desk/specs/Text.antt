@@ -5,7 +5,7 @@ use Prim.Native.Nat.{ℕ, zero, suc, _+_, _-_, _*_, _/_, _%_, _^_, _≤_, _<_}
 use mathlib.Core.Bool.{true, false}
 use mathlib.Core.List.{List, [], _∷_, _++_}
 use lib.Dec.{ltb}
-use lib.ListN.{length}
+use lib.ListN.{length, getD}
 
 abbrev pub digit : ℕ → List ℕ
 digit d = (48 + d) ∷ []
@@ -35,6 +35,13 @@ value v (d ∷ ds) = value (10 * v + (d - 48)) ds
 -- The digits of a number say that number, and they are as few as can be.
 abbrev pub Says-back : Type 0
 Says-back = (n : ℕ) → value 0 (decimal n) ≡ n
+
+-- Each is a digit, 48 to 57, and the first is not 0 unless the number is.
+abbrev pub Only-digits : Type 0
+Only-digits = (n i : ℕ) → i < length (decimal n) → (48 ≤ getD (decimal n) i 0) × (getD (decimal n) i 0 ≤ 57)
+
+abbrev pub No-leading-zero : Type 0
+No-leading-zero = (n : ℕ) → 0 < n → 48 < getD (decimal n) 0 0
 
 abbrev pub As-few : Type 0
 As-few = (k n : ℕ) → n < 10 ^ suc k → length (decimal n) ≤ suc k

@@ -8,4 +8,5 @@ pub mod InOrder
 pub mod Walking
 pub mod Filling
 pub mod Answering
+pub mod Lengths
 mod Readers

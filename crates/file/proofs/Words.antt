@@ -12,7 +12,16 @@ use lib.ListN.{length, take, drop}
 use lib.Seq.{take-suc, getD-drop}
 use Rattle.whole.specs.Size.{Below}
 use Rattle.whole.proofs.Parts.{by-lt}
-use Rattle.file.specs.Bytes.{byte, Bytes, word16, word32, signed32, unsigned32, bytes16, four-bytes, bytes32}
+use Rattle.file.specs.Bytes.{byte, Bytes, Any-bytes, word16, word32, signed32, unsigned32, bytes16, four-bytes, bytes32}
+
+-- ---- past the end stands a 0
+byte-below : (s : List ℕ) → ((i : ℕ) → i < length s → byte s i < 256) → (i : ℕ) → byte s i < 256
+byte-below [] h i = omega arith
+byte-below (x ∷ s) h zero = h 0 (omega arith)
+byte-below (x ∷ s) h (suc i) = byte-below s (λ k l. h (suc k) (omega arith)) i
+
+pub any-bytes : Any-bytes
+any-bytes s h = record { at = byte-below s h }
 
 -- ---- two bytes
 pub word16-bytes : (n : ℕ) → n % 256 + 256 * (n / 256) ≡ n

@@ -1,5 +1,5 @@
 -- Bytes and the numbers that they make (01, "The system file": little-endian; a coefficient is signed, of 32 bits), and bytes put into a target.
--- Definitions only.
+-- Definitions, and the statement that every list of bytes is one.
 use mathlib.Core.Bool.{cond}
 use mathlib.Core.List.{List, [], _∷_, _++_}
 use Prim.Native.Nat.{ℕ, _+_, _-_, _*_, _/_, _%_, _<_}
@@ -13,6 +13,9 @@ byte s i = getD s i 0
 -- every element is a byte: so it is in a lent slice of bytes
 pub record Bytes (s : List ℕ) : Type 0 where
   pub at : (i : ℕ) → byte s i < 256
+
+abbrev pub Any-bytes : Type 0
+Any-bytes = (s : List ℕ) → ((i : ℕ) → i < length s → byte s i < 256) → Bytes s
 
 -- ---- from bytes to numbers: what the two, the four bytes from i on say
 abbrev pub word16 : List ℕ → ℕ → ℕ

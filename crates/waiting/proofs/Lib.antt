@@ -1,3 +1,4 @@
+pub mod Points
 pub mod Measures
 pub mod Fitting
 pub mod Sounds

@@ -1,5 +1,5 @@
 -- What holds of every slot that a run from a start reaches: its length, exact numbers within M, cuts within the depths; rational points, common zeros of the
--- polynomials, and a point in a box (01, "The numbers of a box"). Definitions only.
+-- polynomials, and a point in a box (01, "The numbers of a box"). Definitions, and the statements that every such point and every such zero is one.
 use mathlib.Core.Path.{_≡_}
 use mathlib.Core.List.{List}
 use Prim.Native.Nat.{ℕ, _^_, _≤_, _<_}
@@ -33,6 +33,13 @@ LiesIn h x b = frame h .Lies b (x .numerators) (x .q)
 -- all polynomials are zero there
 pub record CommonZero (h : Head) (cs : List ℤ) (x : Point) : Type 0 where
   pub zeros : (t : ℕ) → t < h .m → frame h .value (x .numerators) (x .q) (polynomial h cs t) ≡ pos 0
+
+-- any numerators and any q above 0 are a point, and where all polynomials are zero is a common zero
+abbrev pub Any-point : Type 0
+Any-point = (X : Three ℤ) (q : ℤ) → pos 0 <ℤ q → (x : Point) × (x .numerators ≡ X) × (x .q ≡ q)
+
+abbrev pub Any-zero : Type 0
+Any-zero = (h : Head) (cs : List ℤ) (x : Point) → ((t : ℕ) → t < h .m → frame h .value (x .numerators) (x .q) (polynomial h cs t) ≡ pos 0) → CommonZero h cs x
 
 -- every rational point of b lies in c
 abbrev pub InsideBox : Head → Box → Box → Type 0
