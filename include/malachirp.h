@@ -9,6 +9,10 @@
  * What the caller owes, as in Rust: a pointer is not null, also where its length is 0, and aligned for its type; the places behind it are as many as the array
  * has, or as the length says, and hold values; what is lent for writing overlaps nothing else that is lent to the same call. Lengths count elements, not bytes.
  *
+ * What a run or a visit cannot see: whether its state and stores are those of a start with the same head. It tests what the rules let it test, and refuses 10;
+ * any other state, one that no start made or under another head than the start's, is run by the rules as it stands, and then finished says nothing: zeros may
+ * lie outside the list. Keep head, state, store and list of a search together, and change none of them between calls.
+ *
  * From Rust the same functions are declared in an `extern "C"` block, a slice as its pointer and its length: examples/rust/boxes.rs. */
 #ifndef MALACHIRP_H
 #define MALACHIRP_H
@@ -38,7 +42,7 @@ enum {
 /* The words that a run or a visit stops with; 0 where a visit was made. */
 enum {
     MALACHIRP_VISITED = 0,
-    MALACHIRP_FINISHED = 1, /* nothing waits: the list is whole */
+    MALACHIRP_FINISHED = 1, /* nothing waits: the list is whole, if a start with this head began the search */
     MALACHIRP_SPENT = 2,    /* the budget is used up, and boxes wait */
     MALACHIRP_FULL = 3      /* the next box would be kept, and the list has no room */
 };

@@ -1,5 +1,6 @@
 """How a proved program is built, where that is still to be done, and started: by the words that tools/start gives."""
 
+import fcntl
 import os
 import subprocess
 import sys
@@ -16,10 +17,12 @@ def build(names):
     missing = [name for name in names if not os.path.exists(os.path.join(ROOT, "target", "bin", name))]
     if missing:
         print("building %s: everything below is proved first, which takes some minutes" % " and ".join(missing), file=sys.stderr, flush=True)
-    try:
-        said = subprocess.run(["rt", "check", *names], cwd=ROOT, stdin=subprocess.DEVNULL, stdout=subprocess.PIPE, stderr=subprocess.STDOUT, text=True)
-    except FileNotFoundError:
-        raise Unbuilt("the Rattle toolchain is missing: no rt on the path") from None
+    with open(os.path.join(ROOT, "crates.txt")) as lock:
+        fcntl.flock(lock, fcntl.LOCK_EX)  # that of ./solve: one prover at a time
+        try:
+            said = subprocess.run(["rt", "check", *names], cwd=ROOT, stdin=subprocess.DEVNULL, stdout=subprocess.PIPE, stderr=subprocess.STDOUT, text=True)
+        except FileNotFoundError:
+            raise Unbuilt("the Rattle toolchain is missing: no rt on the path") from None
     if said.returncode != 0:
         raise Unbuilt("%s`rt check %s` failed" % (said.stdout, " ".join(names)))
 

@@ -1,19 +1,48 @@
 /* boxes FILE: reads a system file, searches in pieces with a list that grows when it is full, and prints each kept box by its middle and half width.
- * tests/c/run builds it. */
+ * The last line before the boxes has the word of the search, and the status says it too: 0 finished, 1 refused, 4 full (the list is not whole), 5 if not all
+ * could be read or written, 2 if there is no such file. tests/c/run builds it. */
 #include <stdio.h>
 #include <stdlib.h>
 
 #include "malachirp.h"
 
+enum { FINISHED = 0, REFUSED = 1, NO_FILE = 2, FULL = 4, NOT_ALL = 5 };
+
 static const char *const words[] = {"", "finished", "spent", "full"};
+
+/* What was printed may still wait to be written: the program ends well only if all of it went. */
+static void end(int status)
+{
+    if (fflush(stdout) != 0 || ferror(stdout)) {
+        fprintf(stderr, "boxes: not all could be written\n");
+        status = NOT_ALL;
+    }
+    exit(status);
+}
 
 /* A refusal ends the program. */
 static void done(const char *call, uint32_t code, const uint64_t *offset)
 {
     if (code != MALACHIRP_DONE) {
         printf("%s refused %u at %llu\n", call, code, (unsigned long long)*offset);
-        exit(0);
+        end(REFUSED);
     }
+}
+
+static size_t read_file(const char *path, uint8_t *file, size_t room)
+{
+    FILE *in = path != NULL ? fopen(path, "rb") : NULL;
+    if (in == NULL) {
+        fprintf(stderr, "usage: boxes FILE\n");
+        exit(NO_FILE);
+    }
+    size_t length = fread(file, 1, room, in);
+    if (ferror(in)) {
+        fprintf(stderr, "boxes: not all could be read\n");
+        exit(NOT_ALL);
+    }
+    fclose(in);
+    return length;
 }
 
 static void print_box(const uint16_t *kept, unsigned variables)
@@ -29,7 +58,7 @@ static void print_box(const uint16_t *kept, unsigned variables)
 
 int main(int argc, char **argv)
 {
-    static uint8_t file[4096];
+    static uint8_t file[4096]; /* more than MALACHIRP_LONGEST_FILE: what is cut off here is refused */
     static int64_t coefficients[MALACHIRP_MOST_COEFFICIENTS];
     static int64_t store[MALACHIRP_MOST_STORE];
     static uint16_t list[7 * 1024];
@@ -39,14 +68,7 @@ int main(int argc, char **argv)
     uint32_t word;
     size_t room = 2;
 
-    FILE *in = argc == 2 ? fopen(argv[1], "rb") : NULL;
-    if (in == NULL) {
-        fprintf(stderr, "usage: boxes FILE\n");
-        return 2;
-    }
-    size_t length = fread(file, 1, sizeof file, in);
-    fclose(in);
-
+    size_t length = read_file(argc == 2 ? argv[1] : NULL, file, sizeof file);
     done("read", malachirp_read(file, length, coefficients, MALACHIRP_MOST_COEFFICIENTS, head, &offset), &offset);
     done("start", malachirp_start(head, coefficients, MALACHIRP_MOST_COEFFICIENTS, store, MALACHIRP_MOST_STORE, state, &offset), &offset);
     do {
@@ -60,5 +82,5 @@ int main(int argc, char **argv)
     for (size_t i = 0; i < state[1]; i++) {
         print_box(list + 7 * i, head[0]);
     }
-    return 0;
+    end(word == MALACHIRP_FINISHED ? FINISHED : FULL);
 }

@@ -66,21 +66,21 @@ accepted s b out st h cs e room =
     rw (i .0, le-leb (places h) (length cs) (i .1), sym (same-range (take (places h) cs)) ∙ i .2, le-leb (needed h) (length st) (room (head-says h .fact (i .0)))) refl
 
 -- ---- the free list, as records
-abbrev one : Kept
-one = first (replicate 7 1)
+abbrev blank : Kept
+blank = first (replicate 7 0)
 
-free-taken : (n k : ℕ) → k ≡ 7 * n → map forget (replicate n (remember one)) ≡ taken n (replicate k 1)
+free-taken : (n k : ℕ) → k ≡ 7 * n → map forget (replicate n (remember blank)) ≡ taken n (replicate k 0)
 unfolding taken
 free-taken zero k e = refl
 free-taken (suc n) k e =
     let seven-more : k ≡ suc (suc (suc (suc (suc (suc (suc (7 * n))))))) = omega arith in
-    rw seven-more (ap (λ (l : List Kept). one ∷ l) (free-taken n (7 * n) refl))
+    rw seven-more (ap (λ (l : List Kept). blank ∷ l) (free-taken n (7 * n) refl))
 
 abbrev free-list : List ℕ
-free-list = replicate (7 * 1024) 1
+free-list = replicate (7 * 1024) 0
 
 free-listed : map forget free ≡ listed free-list
-free-listed = free-taken 1024 (7 * 1024) refl ∙ ap (λ (n : ℕ). taken (n / 7) free-list) (sym (length-replicate {A = ℕ} (7 * 1024) 1))
+free-listed = free-taken 1024 (7 * 1024) refl ∙ ap (λ (n : ℕ). taken (n / 7) free-list) (sym (length-replicate {A = ℕ} (7 * 1024) 0))
 
 -- what is printed of what is found
 abbrev printed : Found → List ℕ
@@ -128,7 +128,7 @@ prints-of-the-front s =
 pub prints-a-run : Prints-a-run
 unfolding report found
 prints-a-run s b h cs e =
-    let room : Limits h → needed h ≤ length empty-store = λ m. omega (arith, room-enough h m .1, length-replicate (31 * 198) (pos 1)) in
+    let room : Limits h → needed h ≤ length empty-store = λ m. omega (arith, room-enough h m .1, length-replicate (31 * 198) (pos 0)) in
     let a : start-check h cs empty-store ≡ Checked.Good = accepted s b no-coefficients empty-store h cs e room in
     let read : (reads s no-coefficients .0 ≡ System h) × (reads s no-coefficients .1 ≡ cs) = (ap (λ r. r .0) e, ap (λ r. r .1) e) in
     record {

@@ -34,10 +34,10 @@ abbrev pub no-coefficients : List ℤ
 no-coefficients = replicate (3 * 64) (pos 0)
 
 abbrev pub empty-store : List ℤ
-empty-store = replicate (31 * 198) (pos 1)
+empty-store = replicate (31 * 198) (pos 0)
 
 abbrev pub free : List (Entry Box)
-free = replicate 1024 (remember (first (replicate 7 1)))
+free = replicate 1024 (remember (first (replicate 7 0)))
 
 -- its one call: "budget 1,000,000"
 abbrev pub program-call : Head → (coefficients : List ℤ) → Stop Memory

@@ -8,12 +8,11 @@ use runs::runs::Answer;
 use system::head::Head;
 use waiting::start::Started;
 ghost use mathlib.Core.Path.{_≡_};
-ghost use mathlib.Core.Bool.{true};
 ghost use mathlib.Core.List.{_++_};
 ghost use lib.ListN.{length, drop};
 ghost use Rattle.runs.specs.Lists.{listed, relisted};
 ghost use Rattle.desk.specs.Lines.{told};
-ghost use Rattle.desk.specs.Report.{system-found, file-found, found, few-kept};
+ghost use Rattle.desk.specs.Report.{system-found, file-found, found};
 
 fn search_system(h: Head, coefficients: &[i64], store: &mut [i64], list: &mut [u16]) -> Answer
     ensures { λ r. ⌜ (r ≡ system-found 1000000 h (now (coefficients .entry)) (now (store .entry)) (now (list .entry)) .answer)
@@ -37,38 +36,18 @@ fn search_file(file: &[u8], coefficients: &mut [i64], store: &mut [i64], list: &
     }
 }
 
-// Reads the file and makes the run. The store's numbers are never read before they are written; ones, as long zeros are cleared byte by byte.
+// Reads the file and makes the run. What the places hold before is never read.
 pub fn search(file: &[u8], list: &mut [u16; 7168]) -> Answer
     ensures { λ r. ⌜ (r ≡ found (now (file .entry)) (now (list .entry)) .answer)
         × (now (list .exit) ≡ relisted (now (list .entry)) (found (now (file .entry)) (now (list .entry)) .kept)) ⌝ }
 {
     let mut coefficients = [0i64; 192];
-    let mut store = [1i64; 6138];
+    let mut store = [0i64; 6138];
     search_file(file, &mut coefficients, &mut store, list)
-}
-
-pub fn few(a: Answer) -> bool
-    ensures { λ r. ⌜ r ≡ few-kept a ⌝ }
-{
-    match a {
-        Answer::Stopped(s) => {
-            let c = s.state;
-            c.kept <= 46
-        }
-        Answer::Refused(_) => true,
-    }
 }
 
 // Puts what is printed of an answer at the front of the text, and answers how many bytes it is. The longest: a first line of 93 bytes and 1,024 lines of 42.
 pub fn tell(a: Answer, list: &[u16; 7168], text: &mut [u8; 43101]) -> usize
-    ensures { λ r. ⌜ (r ≡ length (told a (listed (now (list .entry))))) × (now (text .exit) ≡ told a (listed (now (list .entry))) ++ drop r (now (text .entry))) ⌝ }
-{
-    put_answer(text, a, list)
-}
-
-// The same in a short text, so that a short list costs no long one.
-pub fn tell_few(a: Answer, list: &[u16; 7168], text: &mut [u8; 2048]) -> usize
-    requires { ⌜ few-kept a ≡ true ⌝ }
     ensures { λ r. ⌜ (r ≡ length (told a (listed (now (list .entry))))) × (now (text .exit) ≡ told a (listed (now (list .entry))) ++ drop r (now (text .entry))) ⌝ }
 {
     put_answer(text, a, list)

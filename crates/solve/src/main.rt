@@ -1,31 +1,29 @@
-// The desk program: reads a system file from standard input and writes what is found to standard output.
-use runs::runs::Answer;
-ghost use mathlib.Core.Path.{_≡_};
-ghost use mathlib.Core.Bool.{true};
-ghost use Rattle.desk.specs.Report.{few-kept};
+// The desk program: reads a system file from standard input and writes what is found to standard output. What could not be read or written it says on
+// standard error; of a file that was not read to its end it answers nothing.
+mod moving;
 
-fn print_few(a: Answer, list: &[u16; 7168])
-    requires { ⌜ few-kept a ≡ true ⌝ }
-{
-    let mut text = [0u8; 2048];
-    let n = desk::tell_few(a, list, &mut text);
-    io::write_all(libc::STDOUT_FILENO, &text[..n]);
-}
+use runs::runs::Answer;
 
 fn print(a: Answer, list: &[u16; 7168]) {
     let mut text = [0u8; 43101];
     let n = desk::tell(a, list, &mut text);
-    io::write_all(libc::STDOUT_FILENO, &text[..n]);
+    if !moving::write(&text[..n]) {
+        os::fail(b"solve: not all of the answer could be written");
+    }
+}
+
+fn solve(file: &[u8]) {
+    let mut list = [0u16; 7168];
+    let a = desk::search(file, &mut list);
+    print(a, &list);
 }
 
 fn main() {
     let mut file = io::buffer();
-    let n = io::read_full(libc::STDIN_FILENO, &mut file);
-    let mut list = [1u16; 7168];
-    let a = desk::search(&file[..n], &mut list);
-    if desk::few(a) {
-        print_few(a, &list);
+    let read = moving::read(&mut file);
+    if read.whole {
+        solve(&file[..read.count]);
     } else {
-        print(a, &list);
+        os::fail(b"solve: not all of the input could be read");
     }
 }

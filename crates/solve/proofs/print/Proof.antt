@@ -19,4 +19,4 @@ pub print-spec : {M : Type 1} → statement M
 print-spec =
     tie.close
     (tie.spec (λ c κs. search needs) there (λ c. sym (length-take-le (c .before .tell .result) (c .before .tell .last .1 .1 .0) (there (c .before)))) (λ c κs. search needs)
-    (λ c. search needs))
+    (λ c. search needs) (λ c κs. search needs) (λ c. search needs) (λ c. search needs))
