@@ -8,7 +8,7 @@ use lib.IntN.{ℤ, pos}
 use lib.ListN.{get_or}
 use Rattle.whole.specs.Half.{Half}
 use Rattle.bernstein.specs.Three.{Direction, first, second, third, ◌!◌, replace, Upto}
-use Rattle.bernstein.specs.Numbers.{Degrees, Index, half-line, half-patch}
+use Rattle.bernstein.specs.Numbers.{Degrees, Index, half_line, half_patch}
 use Rattle.bernstein.specs.Places.{place, size, stride, patch, blocks}
 use Rattle.bernstein.proofs.Places.{row_below}
 
@@ -24,31 +24,31 @@ offset n second j = j.x₃
 offset n third j = 0
 
 -- where the line of j begins
-abbrev pub line-start : Degrees → Direction → Index → ℕ
-line-start n r j = block n r j * ((n ! r + 1) * stride n r) + offset n r j
+abbrev pub line_start : Degrees → Direction → Index → ℕ
+line_start n r j = block n r j * ((n ! r + 1) * stride n r) + offset n r j
 
-pub size-blocks : (n : Degrees) (r : Direction) → size n ≡ blocks n r * ((n ! r + 1) * stride n r)
+pub size_blocks : (n : Degrees) (r : Direction) → size n ≡ blocks n r * ((n ! r + 1) * stride n r)
 unfolding size
-size-blocks n first = omega arith
-size-blocks n second = omega arith
-size-blocks n third = omega arith
+size_blocks n first = omega arith
+size_blocks n second = omega arith
+size_blocks n third = omega arith
 
-pub block-below : (n : Degrees) (r : Direction) (j : Index) → Upto j n → block n r j < blocks n r
-block-below n first j u = omega arith
-block-below n second j u = omega (arith, u.upto first)
-block-below n third j u = row_below _ _ j.x₁ j.x₂ (omega (arith, u.upto first)) (u.upto second)
+pub block_below : (n : Degrees) (r : Direction) (j : Index) → Upto j n → block n r j < blocks n r
+block_below n first j u = omega arith
+block_below n second j u = omega (arith, u.upto first)
+block_below n third j u = row_below _ _ j.x₁ j.x₂ (omega (arith, u.upto first)) (u.upto second)
 
-pub offset-below : (n : Degrees) (r : Direction) (j : Index) → Upto j n → offset n r j < stride n r
-offset-below n first j u = row_below _ _ j.x₂ j.x₃ (omega (arith, u.upto second)) (u.upto third)
-offset-below n second j u = omega (arith, u.upto third)
-offset-below n third j u = omega arith
+pub offset_below : (n : Degrees) (r : Direction) (j : Index) → Upto j n → offset n r j < stride n r
+offset_below n first j u = row_below _ _ j.x₂ j.x₃ (omega (arith, u.upto second)) (u.upto third)
+offset_below n second j u = omega (arith, u.upto third)
+offset_below n third j u = omega arith
 
-pub line-place : (n : Degrees) (r : Direction) (j : Index) (i : ℕ) → place n (replace r i j) ≡ line-start n r j + i * stride n r
+pub line_place : (n : Degrees) (r : Direction) (j : Index) (i : ℕ) → place n (replace r i j) ≡ line_start n r j + i * stride n r
 unfolding place
-line-place n first j i = omega arith
-line-place n second j i = omega arith
-line-place n third j i = omega arith
+line_place n first j i = omega arith
+line_place n second j i = omega arith
+line_place n third j i = omega arith
 
-pub patch-half : (h : Half) (n : Degrees) (r : Direction) (l : List ℤ) (base : ℕ) (j : Index)
-    → half-patch h n r (patch n l base) j ≡ half-line h (n ! r) (λ i. get_or l (base + (line-start n r j + i * stride n r)) (pos 0)) (j ! r)
-patch-half h n r l base j = ap (λ b. half-line h (n ! r) b (j ! r)) (fun_ext λ i. ap (λ (x : ℕ). get_or l (base + x) (pos 0)) (line-place n r j i))
+pub patch_half : (h : Half) (n : Degrees) (r : Direction) (l : List ℤ) (base : ℕ) (j : Index)
+    → half_patch h n r (patch n l base) j ≡ half_line h (n ! r) (λ i. get_or l (base + (line_start n r j + i * stride n r)) (pos 0)) (j ! r)
+patch_half h n r l base j = ap (λ b. half_line h (n ! r) b (j ! r)) (fun_ext λ i. ap (λ (x : ℕ). get_or l (base + x) (pos 0)) (line_place n r j i))

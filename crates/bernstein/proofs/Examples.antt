@@ -6,8 +6,8 @@ use lib.IntN.{ℤ, pos, negsuc, ◌+ℤ◌, ◌*ℤ◌}
 use Rattle.whole.specs.Half.{Half, lower, upper}
 use Rattle.whole.specs.Sums.{sum_to, choose}
 use Rattle.whole.proofs.Quote.{ring, reads}
-use Rattle.bernstein.specs.Three.{three, first, second, sum-upto}
-use Rattle.bernstein.specs.Numbers.{Degrees, Patch, unit, half-box, scale, weight, moved, formula, after, half-line, half-patch}
+use Rattle.bernstein.specs.Three.{three, first, second, sum_upto}
+use Rattle.bernstein.specs.Numbers.{Degrees, Patch, unit, half_box, scale, weight, moved, formula, after, half_line, half_patch}
 use Rattle.bernstein.specs.Places.{place, stride, patch}
 
 -- ---- the numbers of a patch in the order of their places
@@ -26,11 +26,11 @@ pub data Example : Type 0 where
 -- A half is computed twice: by the cut, and by formula (2) on the half of the box.
 abbrev pub Holds : Example → Type 0
 Holds (start n a x) = numbers n (formula n (patch n a 0)) ≡ x
-Holds (half h n a x) = (numbers n (half-patch h n first (formula n (patch n a 0))) ≡ x) × (numbers n (formula n (moved n (half-box h first unit) (patch n a 0))) ≡ x)
+Holds (half h n a x) = (numbers n (half_patch h n first (formula n (patch n a 0))) ≡ x) × (numbers n (formula n (moved n (half_box h first unit) (patch n a 0))) ≡ x)
 
-abbrev pub All-hold : List Example → Type 0
-All-hold [] = Unit {0}
-All-hold (e ∷ l) = Holds e × All-hold l
+abbrev pub AllHold : List Example → Type 0
+AllHold [] = Unit {0}
+AllHold (e ∷ l) = Holds e × AllHold l
 
 -- x - x²
 abbrev bump : List ℤ
@@ -49,11 +49,11 @@ starred =
     ∷ start (three 2 2 0) (pos 0 ∷ negsuc 0 ∷ pos 0 ∷ pos 1 ∷ []) (pos 0 ∷ negsuc 1 ∷ negsuc 3 ∷ pos 2 ∷ pos 0 ∷ negsuc 1 ∷ pos 4 ∷ pos 2 ∷ pos 0 ∷ [])
     ∷ []
 
-pub starred-hold : All-hold starred
-unfolding formula moved weight scale choose sum_to sum-upto place half-line after
-starred-hold = (refl, ((refl, refl), ((refl, refl), (refl, ((refl, refl), ((refl, refl), (refl, (refl, tt))))))))
+pub starred_hold : AllHold starred
+unfolding formula moved weight scale choose sum_to sum_upto place half_line after
+starred_hold = (refl, ((refl, refl), ((refl, refl), (refl, ((refl, refl), ((refl, refl), (refl, (refl, tt))))))))
 
 -- ---- formula (2) at degree 4: 12 times a₀ + C(2,1)/C(4,1) a₁ + C(2,2)/C(4,2) a₂, that is a₀ + a₁ / 2 + a₂ / 6
-four-middle : (a : Patch) → formula (three 4 0 0) a (three 2 0 0) ≡ pos 12 *ℤ a (three 0 0 0) +ℤ pos 6 *ℤ a (three 1 0 0) +ℤ pos 2 *ℤ a (three 2 0 0)
-unfolding formula weight scale choose sum_to sum-upto
-four-middle a = ring (a (three 0 0 0) ∷ a (three 1 0 0) ∷ a (three 2 0 0) ∷ []) (search reads depth 20) tt
+four_middle : (a : Patch) → formula (three 4 0 0) a (three 2 0 0) ≡ pos 12 *ℤ a (three 0 0 0) +ℤ pos 6 *ℤ a (three 1 0 0) +ℤ pos 2 *ℤ a (three 2 0 0)
+unfolding formula weight scale choose sum_to sum_upto
+four_middle a = ring (a (three 0 0 0) ∷ a (three 1 0 0) ∷ a (three 2 0 0) ∷ []) (search reads depth 20) tt

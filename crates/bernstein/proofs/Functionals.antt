@@ -21,20 +21,20 @@ pub record Functional (L : Line → ℤ) : Type 0 where
   pub passes : (M : Line → ℤ) → Linear M → (g : ℕ → Line) → M (λ i. L (g i)) ≡ L (λ x. M (λ i. g i x))
 
 module _ {L : Line → ℤ} (l : Linear L) where
-  pub linear-times : (c : ℤ) (f : Line) → L (λ i. c *ℤ f i) ≡ c *ℤ L f
-  linear-times c f =
+  pub linear_times : (c : ℤ) (f : Line) → L (λ i. c *ℤ f i) ≡ c *ℤ L f
+  linear_times c f =
       ap L (fun_ext λ i. ring (c ∷ f i ∷ []) (search reads depth 20) tt) ∙ l.sums c (pos 0) f f ∙ ring (c ∷ L f ∷ []) (search reads depth 20) tt
 
-  pub linear-plus : (f g : Line) → L (λ i. f i +ℤ g i) ≡ L f +ℤ L g
-  linear-plus f g =
+  pub linear_plus : (f g : Line) → L (λ i. f i +ℤ g i) ≡ L f +ℤ L g
+  linear_plus f g =
       ap L (fun_ext λ i. ring (f i ∷ g i ∷ []) (search reads depth 20) tt) ∙ l.sums (pos 1) (pos 1) f g ∙ ring (L f ∷ L g ∷ []) (search reads depth 20) tt
 
-  pub linear-none : L (λ i. pos 0) ≡ pos 0
-  linear-none = l.sums (pos 0) (pos 0) (λ i. pos 0) (λ i. pos 0) ∙ ring (L (λ i. pos 0) ∷ []) (search reads depth 20) tt
+  pub linear_none : L (λ i. pos 0) ≡ pos 0
+  linear_none = l.sums (pos 0) (pos 0) (λ i. pos 0) (λ i. pos 0) ∙ ring (L (λ i. pos 0) ∷ []) (search reads depth 20) tt
 
 -- ---- how they are made
 pub none : Functional (λ f. pos 0)
-none = record { linear = record { sums = λ v u f g. ring (v ∷ u ∷ []) (search reads depth 20) tt }; passes = λ M m g. linear-none m }
+none = record { linear = record { sums = λ v u f g. ring (v ∷ u ∷ []) (search reads depth 20) tt }; passes = λ M m g. linear_none m }
 
 pub entry : (t : ℕ) → Functional (λ f. f t)
 entry t = record { linear = record { sums = λ v u f g. refl }; passes = λ M m g. refl }
@@ -45,13 +45,13 @@ plus {L} {K} l k = record {
     sums = λ v u f g.
         ap₂ ◌+ℤ◌ (l.linear.sums v u f g) (k.linear.sums v u f g) ∙ ring (v ∷ u ∷ L f ∷ L g ∷ K f ∷ K g ∷ []) (search reads depth 20) tt;
   };
-  passes = λ M m g. linear-plus m _ _ ∙ ap₂ ◌+ℤ◌ (l.passes M m g) (k.passes M m g);
+  passes = λ M m g. linear_plus m _ _ ∙ ap₂ ◌+ℤ◌ (l.passes M m g) (k.passes M m g);
 }
 
 pub times : (c : ℤ) {L : Line → ℤ} → Functional L → Functional (λ f. c *ℤ L f)
 times c {L} l = record {
   linear = record { sums = λ v u f g. ap (λ z. c *ℤ z) (l.linear.sums v u f g) ∙ ring (c ∷ v ∷ u ∷ L f ∷ L g ∷ []) (search reads depth 20) tt };
-  passes = λ M m g. linear-times m c _ ∙ ap (λ z. c *ℤ z) (l.passes M m g);
+  passes = λ M m g. linear_times m c _ ∙ ap (λ z. c *ℤ z) (l.passes M m g);
 }
 
 -- one of what others give, a map for each entry
@@ -70,11 +70,11 @@ unfolding sum_to
 combs zero α = none
 combs (suc m) α = plus (combs m α) (times (α m) (entry m))
 
-pub sums-linear : (m : ℕ) → Linear (sum_to m)
+pub sums_linear : (m : ℕ) → Linear (sum_to m)
 unfolding sum_to
-sums-linear zero = none.linear
-sums-linear (suc m) = record {
+sums_linear zero = none.linear
+sums_linear (suc m) = record {
   sums = λ v u f g.
-      ap (λ z. z +ℤ (v *ℤ f m +ℤ u *ℤ g m)) ((sums-linear m).sums v u f g)
+      ap (λ z. z +ℤ (v *ℤ f m +ℤ u *ℤ g m)) ((sums_linear m).sums v u f g)
       ∙ ring (v ∷ u ∷ sum_to m f ∷ sum_to m g ∷ f m ∷ g m ∷ []) (search reads depth 20) tt;
 }

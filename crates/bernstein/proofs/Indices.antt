@@ -6,7 +6,7 @@ use native.Mathlib.Nat.{mul-add-div_right, div-eq_of_lt, mul-add-mod_self_right,
 use Rattle.bernstein.specs.Three.{Direction, first, second, third, three, Upto, ◌!◌}
 use Rattle.bernstein.specs.Numbers.{Degrees, Index}
 use Rattle.bernstein.specs.Places.{place, size, index}
-use Rattle.bernstein.specs.Claims.{Index-of-place, Place-of-index}
+use Rattle.bernstein.specs.Claims.{IndexOfPlace, PlaceOfIndex}
 
 -- ---- rows of d + 1 places
 module _ (d : ℕ) where
@@ -26,13 +26,13 @@ module _ (d : ℕ) where
   row_below c p h = (div-lt_iff_lt-mul some).1 h
 
 module _ (n : Degrees) where
-  pub place-index : (p : ℕ) → place n (index n p) ≡ p
+  pub place_index : (p : ℕ) → place n (index n p) ≡ p
   unfolding place
-  place-index p = ap (λ (x : ℕ). x * (n.x₃ + 1) + p % (n.x₃ + 1)) (div-add-mod' (p / (n.x₃ + 1)) (n.x₂ + 1)) ∙ div-add-mod' p (n.x₃ + 1)
+  place_index p = ap (λ (x : ℕ). x * (n.x₃ + 1) + p % (n.x₃ + 1)) (div-add-mod' (p / (n.x₃ + 1)) (n.x₂ + 1)) ∙ div-add-mod' p (n.x₃ + 1)
 
-  pub index-place : (j : Index) → Upto j n → index n (place n j) ≡ j
+  pub index_place : (j : Index) → Upto j n → index n (place n j) ≡ j
   unfolding place
-  index-place j u =
+  index_place j u =
       let row : place n j / (n.x₃ + 1) ≡ j.x₁ * (n.x₂ + 1) + j.x₂ = row_of n.x₃ (j.x₁ * (n.x₂ + 1) + j.x₂) j.x₃ (u.upto third) in
       let e₁ : place n j / (n.x₃ + 1) / (n.x₂ + 1) ≡ j.x₁ = rw row (row_of n.x₂ j.x₁ j.x₂ (u.upto second)) in
       let e₂ : place n j / (n.x₃ + 1) % (n.x₂ + 1) ≡ j.x₂ = rw row (rest_of n.x₂ j.x₁ j.x₂ (u.upto second)) in
@@ -42,17 +42,17 @@ module _ (n : Degrees) where
       same : {a b c a' b' c' : ℕ} → a ≡ a' → b ≡ b' → c ≡ c' → three a b c ≡ three a' b' c'
       same e f g = cc (e, f, g)
 
-  pub index-upto : (p : ℕ) → p < size n → Upto (index n p) n
+  pub index_upto : (p : ℕ) → p < size n → Upto (index n p) n
   unfolding size
-  index-upto p h = record { upto = by }
+  index_upto p h = record { upto = by }
     where
       by : (r : Direction) → index n p ! r ≤ n ! r
       by first = omega (arith, row_below n.x₂ (n.x₁ + 1) (p / (n.x₃ + 1)) (row_below n.x₃ ((n.x₁ + 1) * (n.x₂ + 1)) p h))
       by second = rest_below n.x₂ (p / (n.x₃ + 1))
       by third = rest_below n.x₃ p
 
-pub index-of-place : Index-of-place
-index-of-place n j u = index-place n j u
+pub index_of_place : IndexOfPlace
+index_of_place n j u = index_place n j u
 
-pub place-of-index : Place-of-index
-place-of-index n p h = (index-upto n p h, place-index n p)
+pub place_of_index : PlaceOfIndex
+place_of_index n p h = (index_upto n p h, place_index n p)

@@ -7,19 +7,19 @@ use lib.Dec.{ltb, ltb→lt, nltb→le}
 use lib.IntN.{ℤ, pos, ◌+ℤ◌, ◌*ℤ◌}
 use Rattle.whole.specs.Half.{Half, lower, upper}
 use Rattle.whole.proofs.Order.{cond_ind}
-use Rattle.whole.proofs.Parts.{by-lt}
-use Rattle.bernstein.specs.Numbers.{Span, half-span, after, half-line}
-use Rattle.bernstein.proofs.Functionals.{Line, Functional, linear-times, through}
-use Rattle.bernstein.proofs.Steps.{steps, step-functional, steps-scale, Splits, blends→splits, blends, steps-at, pow_pos}
+use Rattle.whole.proofs.Parts.{by_lt}
+use Rattle.bernstein.specs.Numbers.{Span, half_span, after, half_line}
+use Rattle.bernstein.proofs.Functionals.{Line, Functional, linear_times, through}
+use Rattle.bernstein.proofs.Steps.{steps, step_functional, steps_scale, Splits, blends→splits, blends, steps_at, pow_pos}
 
 -- ---- one step
 pub after_same : (b : Line) (k j : ℕ) → j ≤ k → after b (suc k) j ≡ after b k j
 unfolding after
 after_same b k j h = cond_ind (ltb k j) _ _ (λ z. z ≡ after b k j) (λ t. absurd (omega (arith, ltb→lt))) (λ t. refl)
 
-pub after-sum : (b : Line) (k j : ℕ) → k < j → after b (suc k) j ≡ after b k (j - 1) +ℤ after b k j
+pub after_sum : (b : Line) (k j : ℕ) → k < j → after b (suc k) j ≡ after b k (j - 1) +ℤ after b k j
 unfolding after
-after-sum b k j h = cond_ind (ltb k j) _ _ (λ z. z ≡ after b k (j - 1) +ℤ after b k j) (λ t. refl) (λ t. absurd (omega (arith, nltb→le)))
+after_sum b k j h = cond_ind (ltb k j) _ _ (λ z. z ≡ after b k (j - 1) +ℤ after b k j) (λ t. refl) (λ t. absurd (omega (arith, nltb→le)))
 
 -- only the entries up to n count
 module _ (n : ℕ) (b e : Line) (same : (j : ℕ) → j ≤ n → b j ≡ e j) where
@@ -28,10 +28,10 @@ module _ (n : ℕ) (b e : Line) (same : (j : ℕ) → j ≤ n → b j ≡ e j) w
   after_cong zero j l = same j l
   after_cong (suc k) j l = let l' : j - 1 ≤ n = omega arith in rw (after_cong k (j - 1) l', after_cong k j l) refl
 
-  pub half-cong : (h : Half) (j : ℕ) → j ≤ n → half-line h n b j ≡ half-line h n e j
-  unfolding half-line
-  half-cong lower j l = rw after_cong refl
-  half-cong upper j l = let m : n ≤ n = omega arith in rw after_cong refl
+  pub half_cong : (h : Half) (j : ℕ) → j ≤ n → half_line h n b j ≡ half_line h n e j
+  unfolding half_line
+  half_cong lower j l = rw after_cong refl
+  half_cong upper j l = let m : n ≤ n = omega arith in rw after_cong refl
 
 -- ---- de Casteljau over any values that split: entry j after k steps
 module _ (W : ℕ → ℕ → ℕ → ℤ) (s : Splits W) (n : ℕ) (b : Line) (starts : (j : ℕ) → j ≤ n → b j ≡ W 0 (n - j) j) where
@@ -44,8 +44,8 @@ module _ (W : ℕ → ℕ → ℕ → ℤ) (s : Splits W) (n : ℕ) (b : Line) (
   casteljau (suc k) j h = go (casteljau k (j - 1) (omega arith)) (casteljau k j h)
     where
       go : after b k (j - 1) ≡ W (min k (j - 1)) (n - (j - 1)) (j - 1 - k) → after b k j ≡ W (min k j) (n - j) (j - k) → after b (suc k) j ≡ W (min (suc k) j) (n - j) (j - suc k)
-      go e f = by-lt k j
-          (λ l. after-sum b k j l ∙ ap₂ ◌+ℤ◌ (e ∙ at (omega arith) (omega arith) (omega arith)) (f ∙ at (omega arith) (omega arith) (omega arith))
+      go e f = by_lt k j
+          (λ l. after_sum b k j l ∙ ap₂ ◌+ℤ◌ (e ∙ at (omega arith) (omega arith) (omega arith)) (f ∙ at (omega arith) (omega arith) (omega arith))
           ∙ sym (s.split k (n - j) (j - suc k)) ∙ at (omega arith) refl refl)
           (λ l. after_same b k j l ∙ f ∙ at (omega arith) refl (omega arith))
 
@@ -67,21 +67,21 @@ high_is i = ap pos (omega arith)
 unfoldable pub number : ℕ → Span → ℕ → Line → ℤ
 number n i j g = steps (grid i) (low i) (n - j) (steps (grid i) (high i) j g) 0
 
-pub number-functional : (n : ℕ) (i : Span) (j : ℕ) → Functional (number n i j)
+pub number_functional : (n : ℕ) (i : Span) (j : ℕ) → Functional (number n i j)
 unfolding number
-number-functional n i j = through (step-functional (grid i) (low i) (n - j) 0) (step-functional (grid i) (high i) j)
+number_functional n i j = through (step_functional (grid i) (low i) (n - j) 0) (step_functional (grid i) (high i) j)
 
 -- twice the steps
 steps_twice : (s d : ℕ) {e : ℕ} → e ≡ 2 * d → (n : ℕ) (g : Line) (t : ℕ) → steps (pos (2 ^ suc s)) (pos e) n g t ≡ pos (2 ^ n) *ℤ steps (pos (2 ^ s)) (pos d) n g t
 steps_twice s d e n g t =
-    ap (λ f. f t) (steps-at (ap pos (omega arith)) (ap pos e) n g)
-    ∙ steps-scale (pos 2) _ (pos d) n g t ∙ ap (λ z. z *ℤ steps (pos (2 ^ s)) (pos d) n g t) (pow_pos 2 n)
+    ap (λ f. f t) (steps_at (ap pos (omega arith)) (ap pos e) n g)
+    ∙ steps_scale (pos 2) _ (pos d) n g t ∙ ap (λ z. z *ℤ steps (pos (2 ^ s)) (pos d) n g t) (pow_pos 2 n)
 
 -- ---- the halves of exact numbers are the exact numbers of the halves
 module _ (n : ℕ) (i : Span) (g b : Line) (exact : (j : ℕ) → j ≤ n → b j ≡ number n i j g) where
   -- the middle, where the upper half begins
   abbrev mid : Span
-  mid = half-span upper i
+  mid = half_span upper i
 
   -- m steps for the middle, p for the lower end, q for the upper end
   mixed : ℕ → ℕ → ℕ → ℤ
@@ -95,12 +95,12 @@ module _ (n : ℕ) (i : Span) (g b : Line) (exact : (j : ℕ) → j ≤ n → b 
       finer : pos 1 *ℤ grid i +ℤ pos 1 *ℤ grid i ≡ pos (2 ^ suc i.cuts)
       finer = ap pos (omega arith)
 
-  pub half-exact : (h : Half) (j : ℕ) → j ≤ n → half-line h n b j ≡ number n (half-span h i) j g
-  unfolding half-line number mixed steps
-  half-exact lower j l =
+  pub half_exact : (h : Half) (j : ℕ) → j ≤ n → half_line h n b j ≡ number n (half_span h i) j g
+  unfolding half_line number mixed steps
+  half_exact lower j l =
       ap (λ z. pos (2 ^ (n - j)) *ℤ z) (entries n j j (n - j) 0 l (omega arith) refl (omega arith))
       ∙ sym (steps_twice i.cuts i.position refl (n - j) _ 0)
-  half-exact upper j l =
+  half_exact upper j l =
       ap (λ z. pos (2 ^ j) *ℤ z) (entries (n - j) n (n - j) 0 j (omega arith) (omega arith) (omega arith) (omega arith))
-      ∙ sym (linear-times (step-functional (grid mid) (low mid) (n - j) 0).linear (pos (2 ^ j)) _)
+      ∙ sym (linear_times (step_functional (grid mid) (low mid) (n - j) 0).linear (pos (2 ^ j)) _)
       ∙ ap (λ h. steps (grid mid) (low mid) (n - j) h 0) (fun_ext λ t. sym (steps_twice i.cuts (suc i.position) (omega arith) j g t))

@@ -7,52 +7,52 @@ use native.Mathlib.Omega.{arith}
 use lib.Pow.{pow_pos as two-above}
 use lib.IntN.{ℤ, pos, negsuc, one, pow, ◌+ℤ◌, ◌-ℤ◌, ◌*ℤ◌, *ℤ-zero}
 use lib.Signed.{◌≤ℤ◌, ◌<ℤ◌}
-use Rattle.whole.proofs.Quote.{ring, ring-from, reads}
-use Rattle.whole.proofs.Order.{≤ℤ-sub, <ℤ-suc, pos-suc-pos, pos-<, positive-+, positive-*, nonneg-*, *ℤ-cancel-<, <-by}
+use Rattle.whole.proofs.Quote.{ring, ring_from, reads}
+use Rattle.whole.proofs.Order.{≤ℤ-sub, <ℤ-suc, pos_suc_pos, pos-<, positive-+, positive-*, nonneg-*, *ℤ-cancel-<, <-by}
 use Rattle.bernstein.specs.Numbers.{Span}
 use Rattle.bernstein.specs.Points.{Inside, Sign, above, below, Has}
 use Rattle.bernstein.proofs.Functionals.{Line}
-use Rattle.bernstein.proofs.Steps.{steps, steps-scale, Blends, blends}
+use Rattle.bernstein.proofs.Steps.{steps, steps_scale, Blends, blends}
 use Rattle.bernstein.proofs.Lines.{grid, low, high, high_is, number}
 
 -- ---- values that blend are above zero where their ends are
-blend-positive : {v u x y : ℤ} → pos 0 ≤ℤ v → pos 0 ≤ℤ u → pos 0 <ℤ (v +ℤ u) → pos 0 <ℤ x → pos 0 <ℤ y → pos 0 <ℤ (v *ℤ x +ℤ u *ℤ y)
-blend-positive {v} {u} {x} {y} hv hu h hx hy =
+blend_positive : {v u x y : ℤ} → pos 0 ≤ℤ v → pos 0 ≤ℤ u → pos 0 <ℤ (v +ℤ u) → pos 0 <ℤ x → pos 0 <ℤ y → pos 0 <ℤ (v *ℤ x +ℤ u *ℤ y)
+blend_positive {v} {u} {x} {y} hv hu h hx hy =
     subst (λ z. pos 0 <ℤ z) (ring (v ∷ u ∷ x ∷ y ∷ []) (search reads depth 20) tt)
     (positive-+ (positive-+ h (nonneg-* hv (≤ℤ-sub (<ℤ-suc hx)))) (nonneg-* hu (≤ℤ-sub (<ℤ-suc hy))))
 
 module _ {v u : ℤ} (W : ℕ → ℕ → ℕ → ℤ) (bl : Blends v u W) (hv : pos 0 ≤ℤ v) (hu : pos 0 ≤ℤ u) (h : pos 0 <ℤ (v +ℤ u)) (n : ℕ) (ends : (j : ℕ) → j ≤ n → pos 0 <ℤ W 0 (n - j) j) where
-  pub blends-positive : (c p q : ℕ) → c + p + q ≡ n → pos 0 <ℤ W c p q
-  blends-positive zero p q e = subst (λ (x : ℕ). pos 0 <ℤ W 0 x q) (omega arith) (ends q (omega arith))
-  blends-positive (suc c) p q e =
+  pub blends_positive : (c p q : ℕ) → c + p + q ≡ n → pos 0 <ℤ W c p q
+  blends_positive zero p q e = subst (λ (x : ℕ). pos 0 <ℤ W 0 x q) (omega arith) (ends q (omega arith))
+  blends_positive (suc c) p q e =
       subst (λ z. pos 0 <ℤ z) (sym (bl.blend c p q))
-      (blend-positive hv hu h (blends-positive c (suc p) q (omega arith)) (blends-positive c p (suc q) (omega arith)))
+      (blend_positive hv hu h (blends_positive c (suc p) q (omega arith)) (blends_positive c p (suc q) (omega arith)))
 
 -- ---- the weights of a point of a span, with P for its grid, K for low and K' for high
 module _ (P K X q : ℤ) {K' : ℤ} (next : K' ≡ K +ℤ pos 1) where
   total : (K' *ℤ q -ℤ P *ℤ X) +ℤ (P *ℤ X -ℤ K *ℤ q) ≡ q
-  total = ring-from (P ∷ K ∷ X ∷ q ∷ K' ∷ []) (ap (λ z. z *ℤ q) next) (search reads depth 20) tt
+  total = ring_from (P ∷ K ∷ X ∷ q ∷ K' ∷ []) (ap (λ z. z *ℤ q) next) (search reads depth 20) tt
 
   scaled : (K' *ℤ q -ℤ P *ℤ X) *ℤ P +ℤ (P *ℤ X -ℤ K *ℤ q) *ℤ P ≡ P *ℤ q
-  scaled = ring-from (P ∷ K ∷ X ∷ q ∷ K' ∷ []) (ap (λ z. z *ℤ q *ℤ P) next) (search reads depth 20) tt
+  scaled = ring_from (P ∷ K ∷ X ∷ q ∷ K' ∷ []) (ap (λ z. z *ℤ q *ℤ P) next) (search reads depth 20) tt
 
   point : (K' *ℤ q -ℤ P *ℤ X) *ℤ K +ℤ (P *ℤ X -ℤ K *ℤ q) *ℤ K' ≡ P *ℤ X
-  point = ring-from (P ∷ K ∷ X ∷ q ∷ K' ∷ []) (ap (λ z. P *ℤ X *ℤ z) next) (search reads depth 20) tt
+  point = ring_from (P ∷ K ∷ X ∷ q ∷ K' ∷ []) (ap (λ z. P *ℤ X *ℤ z) next) (search reads depth 20) tt
 
-pow-positive : {m : ℤ} (n : ℕ) → pos 0 <ℤ m → pos 0 <ℤ pow m n
+pow_positive : {m : ℤ} (n : ℕ) → pos 0 <ℤ m → pos 0 <ℤ pow m n
 unfolding pow one
-pow-positive zero h = pos-suc-pos 0
-pow-positive (suc n) h = positive-* (pow-positive n h) h
+pow_positive zero h = pos_suc_pos 0
+pow_positive (suc n) h = positive-* (pow_positive n h) h
 
 -- v is how far a point lies from the upper edge, u from the lower
-pub positive-line : (n : ℕ) (i : Span) (X q : ℤ) → pos 0 <ℤ q → Inside i X q → (g : Line) → ((j : ℕ) → j ≤ n → pos 0 <ℤ number n i j g) → pos 0 <ℤ steps q X n g 0
+pub positive_line : (n : ℕ) (i : Span) (X q : ℤ) → pos 0 <ℤ q → Inside i X q → (g : Line) → ((j : ℕ) → j ≤ n → pos 0 <ℤ number n i j g) → pos 0 <ℤ steps q X n g 0
 unfolding steps number
-positive-line n i X q hq w g h =
+positive_line n i X q hq w g h =
     let v = high i *ℤ q -ℤ grid i *ℤ X in
     let u = grid i *ℤ X -ℤ low i *ℤ q in
-    *ℤ-cancel-< (pow (grid i) n) (pow-positive n (pos-< (two-above i.cuts)))
-    (subst₂ ◌<ℤ◌ (sym (*ℤ-zero (pow (grid i) n))) (steps-scale (grid i) q X n g 0)
-    (blends-positive (λ m p r. steps (grid i) (low i) p (steps (grid i *ℤ q) (grid i *ℤ X) m (steps (grid i) (high i) r g)) 0)
+    *ℤ-cancel-< (pow (grid i) n) (pow_positive n (pos-< (two-above i.cuts)))
+    (subst₂ ◌<ℤ◌ (sym (*ℤ-zero (pow (grid i) n))) (steps_scale (grid i) q X n g 0)
+    (blends_positive (λ m p r. steps (grid i) (low i) p (steps (grid i *ℤ q) (grid i *ℤ X) m (steps (grid i) (high i) r g)) 0)
     (blends v u (grid i) (low i) (grid i) (high i) (scaled (grid i) (low i) X q (high_is i)) (point (grid i) (low i) X q (high_is i)) g 0)
     (≤ℤ-sub w.below) (≤ℤ-sub w.above) (subst (λ z. pos 0 <ℤ z) (sym (total (grid i) (low i) X q (high_is i))) hq) n h n 0 0 (omega arith)))
 
@@ -61,10 +61,10 @@ abbrev pub factor : Sign → ℤ
 factor above = pos 1
 factor below = negsuc 0
 
-pub has-factor : (s : Sign) (z : ℤ) → Has s z → pos 0 <ℤ (factor s *ℤ z)
-has-factor above z h = <-by (z ∷ []) h (search reads depth 20) tt
-has-factor below z h = <-by (z ∷ []) h (search reads depth 20) tt
+pub has_factor : (s : Sign) (z : ℤ) → Has s z → pos 0 <ℤ (factor s *ℤ z)
+has_factor above z h = <-by (z ∷ []) h (search reads depth 20) tt
+has_factor below z h = <-by (z ∷ []) h (search reads depth 20) tt
 
-pub factor-has : (s : Sign) (z : ℤ) → pos 0 <ℤ (factor s *ℤ z) → Has s z
-factor-has above z h = <-by (z ∷ []) h (search reads depth 20) tt
-factor-has below z h = <-by (z ∷ []) h (search reads depth 20) tt
+pub factor_has : (s : Sign) (z : ℤ) → pos 0 <ℤ (factor s *ℤ z) → Has s z
+factor_has above z h = <-by (z ∷ []) h (search reads depth 20) tt
+factor_has below z h = <-by (z ∷ []) h (search reads depth 20) tt

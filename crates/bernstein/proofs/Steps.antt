@@ -16,35 +16,35 @@ unfoldable pub steps : ℤ → ℤ → ℕ → Line → Line
 steps c d zero g = g
 steps c d (suc n) g = step c d (steps c d n g)
 
-pub step-functional : (c d : ℤ) (n t : ℕ) → Functional (λ g. steps c d n g t)
+pub step_functional : (c d : ℤ) (n t : ℕ) → Functional (λ g. steps c d n g t)
 unfolding steps step
-step-functional c d zero t = entry t
-step-functional c d (suc n) t = plus (times c (step-functional c d n t)) (times d (step-functional c d n (suc t)))
+step_functional c d zero t = entry t
+step_functional c d (suc n) t = plus (times c (step_functional c d n t)) (times d (step_functional c d n (suc t)))
 
 -- ---- steps of two kinds commute
-step-comm : (c d c' d' : ℤ) (g : Line) → step c d (step c' d' g) ≡ step c' d' (step c d g)
+step_comm : (c d c' d' : ℤ) (g : Line) → step c d (step c' d' g) ≡ step c' d' (step c d g)
 unfolding step
-step-comm c d c' d' g = fun_ext λ i. ring (c ∷ d ∷ c' ∷ d' ∷ g i ∷ g (suc i) ∷ g (suc (suc i)) ∷ []) (search reads depth 20) tt
+step_comm c d c' d' g = fun_ext λ i. ring (c ∷ d ∷ c' ∷ d' ∷ g i ∷ g (suc i) ∷ g (suc (suc i)) ∷ []) (search reads depth 20) tt
 
-pub step-steps : (c d c' d' : ℤ) (n : ℕ) (g : Line) → step c d (steps c' d' n g) ≡ steps c' d' n (step c d g)
+pub step_steps : (c d c' d' : ℤ) (n : ℕ) (g : Line) → step c d (steps c' d' n g) ≡ steps c' d' n (step c d g)
 unfolding steps
-step-steps c d c' d' zero g = refl
-step-steps c d c' d' (suc n) g = step-comm c d c' d' _ ∙ ap (step c' d') (step-steps c d c' d' n g)
+step_steps c d c' d' zero g = refl
+step_steps c d c' d' (suc n) g = step_comm c d c' d' _ ∙ ap (step c' d') (step_steps c d c' d' n g)
 
-pub steps-steps : (c d : ℤ) (m : ℕ) (c' d' : ℤ) (n : ℕ) (g : Line) → steps c d m (steps c' d' n g) ≡ steps c' d' n (steps c d m g)
+pub steps_steps : (c d : ℤ) (m : ℕ) (c' d' : ℤ) (n : ℕ) (g : Line) → steps c d m (steps c' d' n g) ≡ steps c' d' n (steps c d m g)
 unfolding steps
-steps-steps c d zero c' d' n g = refl
-steps-steps c d (suc m) c' d' n g = ap (step c d) (steps-steps c d m c' d' n g) ∙ step-steps c d c' d' n _
+steps_steps c d zero c' d' n g = refl
+steps_steps c d (suc m) c' d' n g = ap (step c d) (steps_steps c d m c' d' n g) ∙ step_steps c d c' d' n _
 
 -- ---- a multiple of a step
 step_scale : (m c d : ℤ) (g : Line) (k : ℤ) (f : Line) → g ≡ (λ i. k *ℤ f i) → (t : ℕ) → step (m *ℤ c) (m *ℤ d) g t ≡ k *ℤ m *ℤ step c d f t
 unfolding step
 step_scale m c d g k f e t = ap (λ h. m *ℤ c *ℤ h t +ℤ m *ℤ d *ℤ h (suc t)) e ∙ ring (m ∷ c ∷ d ∷ k ∷ f t ∷ f (suc t) ∷ []) (search reads depth 20) tt
 
-pub steps-scale : (m c d : ℤ) (n : ℕ) (g : Line) (t : ℕ) → steps (m *ℤ c) (m *ℤ d) n g t ≡ pow m n *ℤ steps c d n g t
+pub steps_scale : (m c d : ℤ) (n : ℕ) (g : Line) (t : ℕ) → steps (m *ℤ c) (m *ℤ d) n g t ≡ pow m n *ℤ steps c d n g t
 unfolding steps pow one
-steps-scale m c d zero g t = sym (one-*ℤ (g t))
-steps-scale m c d (suc n) g t = step_scale m c d _ (pow m n) _ (fun_ext (steps-scale m c d n g)) t
+steps_scale m c d zero g t = sym (one-*ℤ (g t))
+steps_scale m c d (suc n) g t = step_scale m c d _ (pow m n) _ (fun_ext (steps_scale m c d n g)) t
 
 -- ---- values W c p q of c middles, p lower and q upper ends
 -- they blend with weights v and u
@@ -63,26 +63,26 @@ splits→blends {W} s = record { blend = λ c p q. s.split c p q ∙ sym (ap₂ 
 
 -- p steps for the lower end, q for the upper end, and m for their weighted sum, c'' and d''
 module _ (v u c d c' d' : ℤ) {c'' d'' : ℤ} (scaled : v *ℤ c +ℤ u *ℤ c' ≡ c'') (point : v *ℤ d +ℤ u *ℤ d' ≡ d'') (g : Line) where
-  step-blend : (y : Line) (i : ℕ) → step c'' d'' y i ≡ v *ℤ step c d y i +ℤ u *ℤ step c' d' y i
+  step_blend : (y : Line) (i : ℕ) → step c'' d'' y i ≡ v *ℤ step c d y i +ℤ u *ℤ step c' d' y i
   unfolding step
-  step-blend y i = ap₂ (λ a b. a *ℤ y i +ℤ b *ℤ y (suc i)) (sym scaled) (sym point) ∙ ring (v ∷ u ∷ c ∷ d ∷ c' ∷ d' ∷ y i ∷ y (suc i) ∷ []) (search reads depth 20) tt
+  step_blend y i = ap₂ (λ a b. a *ℤ y i +ℤ b *ℤ y (suc i)) (sym scaled) (sym point) ∙ ring (v ∷ u ∷ c ∷ d ∷ c' ∷ d' ∷ y i ∷ y (suc i) ∷ []) (search reads depth 20) tt
 
   pub blends : (t : ℕ) → Blends v u (λ m p q. steps c d p (steps c'' d'' m (steps c' d' q g)) t)
   unfolding steps
   blends t = record {
     blend = λ m p q.
         let y = steps c'' d'' m (steps c' d' q g) in
-        ap (λ h. steps c d p h t) (fun_ext (step-blend y))
-        ∙ (step-functional c d p t).linear.sums v u (step c d y) (step c' d' y)
-        ∙ ap₂ (λ (f h : Line). v *ℤ f t +ℤ u *ℤ h t) (sym (step-steps c d c d p y)) (ap (steps c d p) (step-steps c' d' c'' d'' m _));
+        ap (λ h. steps c d p h t) (fun_ext (step_blend y))
+        ∙ (step_functional c d p t).linear.sums v u (step c d y) (step c' d' y)
+        ∙ ap₂ (λ (f h : Line). v *ℤ f t +ℤ u *ℤ h t) (sym (step_steps c d c d p y)) (ap (steps c d p) (step_steps c' d' c'' d'' m _));
   }
 
 -- steps at equal coefficients
-pub steps-at : {c c' d d' : ℤ} → c ≡ c' → d ≡ d' → (n : ℕ) (g : Line) → steps c d n g ≡ steps c' d' n g
-steps-at x y n g = λ i. steps (x i) (y i) n g
+pub steps_at : {c c' d d' : ℤ} → c ≡ c' → d ≡ d' → (n : ℕ) (g : Line) → steps c d n g ≡ steps c' d' n g
+steps_at x y n g = λ i. steps (x i) (y i) n g
 
 -- ---- powers of natural numbers
 pub pow_pos : (b n : ℕ) → pow (pos b) n ≡ pos (b ^ n)
 unfolding pow one
-pow_pos b zero = ap pos (sym (NatL.pow-zero b))
-pow_pos b (suc n) = ap (λ z. z *ℤ pos b) (pow_pos b n) ∙ ap pos (sym (NatL.pow-suc b n))
+pow_pos b zero = ap pos (sym (NatL.pow_zero b))
+pow_pos b (suc n) = ap (λ z. z *ℤ pos b) (pow_pos b n) ∙ ap pos (sym (NatL.pow_suc b n))

@@ -6,7 +6,7 @@ use Prim.Native.Nat.{ℕ, zero, suc, ◌≤◌, ◌<◌}
 use native.Mathlib.Omega.{arith}
 use native.Mathlib.Nat as NatL
 use lib.Dec.{T}
-use Rattle.whole.proofs.Parts.{by-lt}
+use Rattle.whole.proofs.Parts.{by_lt}
 
 pub both : (x y : Bool) → T (cond x y false) → T x × T y
 both true y t = (tt, t)
@@ -24,17 +24,17 @@ abbrev pub all : (ℕ → Bool) → ℕ → Bool
 all p zero = true
 all p (suc n) = cond (p n) (all p n) false
 
-pub all-at : (p : ℕ → Bool) (n i : ℕ) → T (all p n) → i < n → T (p i)
-all-at p zero i t h = absurd (NatL.not-suc-le-zero h)
-all-at p (suc n) i t h =
-    by-lt i n (all-at p n i (both (p n) (all p n) t).1) (λ m. let e : n ≡ i = omega arith in subst (λ (x : ℕ). T (p x)) e (both (p n) (all p n) t).0)
+pub all_at : (p : ℕ → Bool) (n i : ℕ) → T (all p n) → i < n → T (p i)
+all_at p zero i t h = absurd (NatL.not-suc-le-zero h)
+all_at p (suc n) i t h =
+    by_lt i n (all_at p n i (both (p n) (all p n) t).1) (λ m. let e : n ≡ i = omega arith in subst (λ (x : ℕ). T (p x)) e (both (p n) (all p n) t).0)
 
 -- where p holds, q does
 abbrev pub implied : (ℕ → ℕ → ℕ → Bool) → (ℕ → ℕ → ℕ → Bool) → Bool
 implied p q = all (λ x. all (λ y. all (λ z. cond (p x y z) (q x y z) true) 7) 7) 7
 
-pub implied-at : (p q : ℕ → ℕ → ℕ → Bool) → T (implied p q) → (x y z : ℕ) → x ≤ 6 → y ≤ 6 → z ≤ 6 → T (p x y z) → T (q x y z)
-implied-at p q t x y z a b c = given (p x y z) _
-    (all-at (λ z. cond (p x y z) (q x y z) true) 7 z
-    (all-at (λ y. all (λ z. cond (p x y z) (q x y z) true) 7) 7 y
-    (all-at (λ x. all (λ y. all (λ z. cond (p x y z) (q x y z) true) 7) 7) 7 x t (omega arith)) (omega arith)) (omega arith))
+pub implied_at : (p q : ℕ → ℕ → ℕ → Bool) → T (implied p q) → (x y z : ℕ) → x ≤ 6 → y ≤ 6 → z ≤ 6 → T (p x y z) → T (q x y z)
+implied_at p q t x y z a b c = given (p x y z) _
+    (all_at (λ z. cond (p x y z) (q x y z) true) 7 z
+    (all_at (λ y. all (λ z. cond (p x y z) (q x y z) true) 7) 7 y
+    (all_at (λ x. all (λ y. all (λ z. cond (p x y z) (q x y z) true) 7) 7) 7 x t (omega arith)) (omega arith)) (omega arith))

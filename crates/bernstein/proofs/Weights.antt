@@ -7,8 +7,8 @@ use native.Mathlib.Omega.{arith}
 use lib.Dec.{T, eqb, ltb, leb, eqb→eq, ltb→lt, le→leb}
 use Rattle.whole.specs.Sums.{choose}
 use Rattle.bernstein.specs.Numbers.{scale, weight}
-use Rattle.bernstein.specs.Claims.{Weights-whole, Multiple, Scale-least}
-use Rattle.bernstein.proofs.Tests.{both, implied, implied-at}
+use Rattle.bernstein.specs.Claims.{WeightsWhole, Multiple, ScaleLeast}
+use Rattle.bernstein.proofs.Tests.{both, implied, implied_at}
 
 -- ---- whole weights w of the scale S
 pub record Weights (n S : ℕ) (w : ℕ → ℕ) : Type 0 where
@@ -19,32 +19,32 @@ pub record Weights (n S : ℕ) (w : ℕ → ℕ) : Type 0 where
 is_whole : ℕ → ℕ → Bool
 is_whole n t = eqb (choose n t * weight n t) (scale n)
 
-moves-on : ℕ → ℕ → ℕ → Bool
-moves-on n t r = eqb (weight n t * choose (t + r) t) (choose (n - t) r * weight n (t + r))
+moves_on : ℕ → ℕ → ℕ → Bool
+moves_on n t r = eqb (weight n t * choose (t + r) t) (choose (n - t) r * weight n (t + r))
 
 right : ℕ → ℕ → ℕ → Bool
-right n t r = cond (ltb 0 (scale n)) (cond (is_whole n t) (moves-on n t r) false) false
+right n t r = cond (ltb 0 (scale n)) (cond (is_whole n t) (moves_on n t r) false) false
 
 all_right : T (implied (λ n t r. leb (t + r) n) right)
-unfolding right is_whole moves-on scale weight choose
+unfolding right is_whole moves_on scale weight choose
 all_right = tt
 
 pub weights : (n : ℕ) → n ≤ 6 → Weights n (scale n) (weight n)
-unfolding right is_whole moves-on
+unfolding right is_whole moves_on
 weights n h = record { some = ltb→lt _ _ (at 0 0 (omega arith)).0; whole = λ t l. eqb→eq _ _ (at t 0 (omega arith)).1; moves = λ t r l. eqb→eq _ _ (at t r l).2 }
   where
-    at : (t r : ℕ) → t + r ≤ n → T (ltb 0 (scale n)) × T (is_whole n t) × T (moves-on n t r)
+    at : (t r : ℕ) → t + r ≤ n → T (ltb 0 (scale n)) × T (is_whole n t) × T (moves_on n t r)
     at t r l =
-        let x = both (ltb 0 (scale n)) (cond (is_whole n t) (moves-on n t r) false) (implied-at (λ n t r. leb (t + r) n) right all_right n t r h (omega arith) (omega arith) (le→leb (t + r) n l)) in
-        let y = both (is_whole n t) (moves-on n t r) x.1 in
+        let x = both (ltb 0 (scale n)) (cond (is_whole n t) (moves_on n t r) false) (implied_at (λ n t r. leb (t + r) n) right all_right n t r h (omega arith) (omega arith) (le→leb (t + r) n l)) in
+        let y = both (is_whole n t) (moves_on n t r) x.1 in
         (x.0, y.0, y.1)
 
-pub weights-whole : Weights-whole
-weights-whole n i h l = (weights n h).whole i l
+pub weights_whole : WeightsWhole
+weights_whole n i h l = (weights n h).whole i l
 
 -- ---- the least common multiple: the scale is one of the C(n, i), or a difference of multiples of two of them (12 is 3 · 4 and 2 · 6, 60 is 4 · 15 and 3 · 20)
-multiple-of : (d k c : ℕ) → k ≡ c * d → Multiple d k
-multiple-of d k c e = record { times = c; is = e }
+multiple_of : (d k c : ℕ) → k ≡ c * d → Multiple d k
+multiple_of d k c e = record { times = c; is = e }
 
 by_two : (k a b : ℕ) → k ≡ a * 4 → k ≡ b * 6 → k ≡ (a - b) * 12
 by_two k a b e f = omega arith
@@ -52,19 +52,19 @@ by_two k a b e f = omega arith
 by_three : (k a b : ℕ) → k ≡ a * 15 → k ≡ b * 20 → k ≡ (a - b) * 60
 by_three k a b e f = omega arith
 
-pub scale-least : Scale-least
+pub scale_least : ScaleLeast
 unfolding scale choose
-scale-least zero k h m = m 0 (omega arith)
-scale-least (suc zero) k h m = m 0 (omega arith)
-scale-least (suc (suc zero)) k h m = m 1 (omega arith)
-scale-least (suc (suc (suc zero))) k h m = m 1 (omega arith)
-scale-least (suc (suc (suc (suc zero)))) k h m =
+scale_least zero k h m = m 0 (omega arith)
+scale_least (suc zero) k h m = m 0 (omega arith)
+scale_least (suc (suc zero)) k h m = m 1 (omega arith)
+scale_least (suc (suc (suc zero))) k h m = m 1 (omega arith)
+scale_least (suc (suc (suc (suc zero)))) k h m =
     let four = m 1 (omega arith) in
     let six = m 2 (omega arith) in
-    multiple-of 12 k (four.times - six.times) (by_two k four.times six.times four.is six.is)
-scale-least (suc (suc (suc (suc (suc zero))))) k h m = m 2 (omega arith)
-scale-least (suc (suc (suc (suc (suc (suc zero)))))) k h m =
+    multiple_of 12 k (four.times - six.times) (by_two k four.times six.times four.is six.is)
+scale_least (suc (suc (suc (suc (suc zero))))) k h m = m 2 (omega arith)
+scale_least (suc (suc (suc (suc (suc (suc zero)))))) k h m =
     let fifteen = m 2 (omega arith) in
     let twenty = m 3 (omega arith) in
-    multiple-of 60 k (fifteen.times - twenty.times) (by_three k fifteen.times twenty.times fifteen.is twenty.is)
-scale-least (suc (suc (suc (suc (suc (suc (suc n))))))) k h m = absurd (omega arith)
+    multiple_of 60 k (fifteen.times - twenty.times) (by_three k fifteen.times twenty.times fifteen.is twenty.is)
+scale_least (suc (suc (suc (suc (suc (suc (suc n))))))) k h m = absurd (omega arith)

@@ -8,7 +8,7 @@ use Rattle.std.specs.Prelude.{◌≡◌, ◌⊎◌, ℕ, ◌-◌, ◌^◌, ◌�
 use Rattle.whole.specs.Half.{Half, lower, upper}
 use Rattle.whole.specs.Size.{Below}
 use Rattle.bernstein.specs.Three.{Direction, Three, ◌!◌, Upto}
-use Rattle.bernstein.specs.Numbers.{Degrees, Small, Index, Patch, Box, unit, half-box, formula, half-patch}
+use Rattle.bernstein.specs.Numbers.{Degrees, Small, Index, Patch, Box, unit, half_box, formula, half_patch}
 use Rattle.bernstein.specs.Numbers
 use Rattle.bernstein.specs.Points.{Within, Sign, Has}
 use Rattle.bernstein.specs.Points
@@ -40,7 +40,7 @@ boxes n = record {
   degree = λ r. n ! r;
   Exact = Numbers.Exact n;
   start = formula n;
-  half = λ h r. half-patch h n r;
+  half = λ h r. half_patch h n r;
   Lies = Within;
   value = λ X q a. Points.value n X q a;
 }
@@ -48,22 +48,22 @@ boxes n = record {
 pub record Lawful (F : Frame) : Type 0 where
   -- every index that has a number has a place of its own, and every place has an index
   pub size_low : 1 ≤ F.size
-  pub place-below : (j : Index) → F.Inside j → F.place j < F.size
-  pub index-place : (j : Index) → F.Inside j → F.index (F.place j) ≡ j
-  pub index-inside : (p : ℕ) → p < F.size → F.Inside (F.index p)
+  pub place_below : (j : Index) → F.Inside j → F.place j < F.size
+  pub index_place : (j : Index) → F.Inside j → F.index (F.place j) ≡ j
+  pub index_inside : (p : ℕ) → p < F.size → F.Inside (F.index p)
   -- only numbers inside count; the start is exact, and the halves of exact numbers are the exact numbers of the halves
   pub exact_same : (b : Box) (a p q : Patch) → F.Exact b a p → ((j : Index) → F.Inside j → q j ≡ p j) → F.Exact b a q
-  pub start-exact : (a : Patch) → F.Exact unit a (F.start a)
-  pub cut-exact : (b : Box) (a p : Patch) → F.Exact b a p → (h : Half) (r : Direction) → F.Exact (half-box h r b) a (F.half h r p)
+  pub start_exact : (a : Patch) → F.Exact unit a (F.start a)
+  pub cut_exact : (b : Box) (a p : Patch) → F.Exact b a p → (h : Half) (r : Direction) → F.Exact (half_box h r b) a (F.half h r p)
   -- the start fits, and so do the halves of a cell that can be cut
   pub start_fits : (a : Patch) → ((j : Index) → F.Inside j → nat_abs (a j) ≤ 1000000000) → (j : Index) → F.Inside j → Below (2 ^ 62) (F.start a j)
   pub cut_fits : (h : Half) (r : Direction) (p : Patch) → ((j : Index) → F.Inside j → Below (2 ^ (62 - F.degree r)) (p j))
       → (j : Index) → F.Inside j → Below (2 ^ 62) (F.half h r p j)
   -- numbers of one strict sign give it to the value at every point of the cell; a point of a cell lies in a half, a point of a half in the cell
-  pub sign-holds : (b : Box) (a p : Patch) → F.Exact b a p → (s : Sign) → ((j : Index) → F.Inside j → Has s (p j))
+  pub sign_holds : (b : Box) (a p : Patch) → F.Exact b a p → (s : Sign) → ((j : Index) → F.Inside j → Has s (p j))
       → (X : Three ℤ) (q : ℤ) → pos 0 <ℤ q → F.Lies b X q → Has s (F.value X q a)
-  pub halves-cover : (r : Direction) (b : Box) (X : Three ℤ) (q : ℤ) → F.Lies b X q → F.Lies (half-box lower r b) X q ⊎ F.Lies (half-box upper r b) X q
-  pub halves-inside : (h : Half) (r : Direction) (b : Box) (X : Three ℤ) (q : ℤ) → F.Lies (half-box h r b) X q → F.Lies b X q
+  pub halves_cover : (r : Direction) (b : Box) (X : Three ℤ) (q : ℤ) → F.Lies b X q → F.Lies (half_box lower r b) X q ⊎ F.Lies (half_box upper r b) X q
+  pub halves_inside : (h : Half) (r : Direction) (b : Box) (X : Three ℤ) (q : ℤ) → F.Lies (half_box h r b) X q → F.Lies b X q
 
-abbrev pub Boxes-lawful : Type 0
-Boxes-lawful = (n : Degrees) → Small n → Places.size n ≤ 64 → Lawful (boxes n)
+abbrev pub BoxesLawful : Type 0
+BoxesLawful = (n : Degrees) → Small n → Places.size n ≤ 64 → Lawful (boxes n)

@@ -4,7 +4,7 @@ use Rattle.std.specs.Prelude.{◌≡◌, cond, [], ◌∷◌, ℕ, zero, suc, �
 use Rattle.whole.specs.Half.{Half, lower, upper}
 use Rattle.whole.specs.Size.{Below}
 use Rattle.whole.specs.Sums.{choose}
-use Rattle.bernstein.specs.Three.{Direction, Three, three, ◌!◌, replace, Upto, sum-upto, product}
+use Rattle.bernstein.specs.Three.{Direction, Three, three, ◌!◌, replace, Upto, sum_upto, product}
 
 -- ---- the system
 -- n1, n2, n3: at most 6 each
@@ -37,12 +37,12 @@ abbrev pub unit : Box
 unit = three (span 0 0) (span 0 0) (span 0 0)
 
 -- the lower half, s + 1 with 2 k, and the upper half, s + 1 with 2 k + 1
-abbrev pub half-span : Half → Span → Span
-half-span lower i = span (suc i.cuts) (2 * i.position)
-half-span upper i = span (suc i.cuts) (suc (2 * i.position))
+abbrev pub half_span : Half → Span → Span
+half_span lower i = span (suc i.cuts) (2 * i.position)
+half_span upper i = span (suc i.cuts) (suc (2 * i.position))
 
-abbrev pub half-box : Half → Direction → Box → Box
-half-box h r b = replace r (half-span h (b ! r)) b
+abbrev pub half_box : Half → Direction → Box → Box
+half_box h r b = replace r (half_span h (b ! r)) b
 
 -- ---- the scale: by degree, the least common multiple of C(n, 0) .. C(n, n)
 unfoldable pub scale : ℕ → ℕ
@@ -59,11 +59,11 @@ part n i e t = choose e t * i.position ^ (e - t) * 2 ^ (i.cuts * (n - e))
 
 -- The polynomial with (k + y) / 2^s put for each variable, times 2^(n1 s1 + n2 s2 + n3 s3): its coefficient at T.
 unfoldable pub moved : Degrees → Box → Patch → Patch
-moved n b a t = sum-upto n (λ i. product (λ r. pos (part (n ! r) (b ! r) (i ! r) (t ! r))) *ℤ a i)
+moved n b a t = sum_upto n (λ i. product (λ r. pos (part (n ! r) (b ! r) (i ! r) (t ! r))) *ℤ a i)
 
 -- Formula (2) of 004 times the scale: the sum over T ≤ J of C(J, T) · scale / C(N, T) · c_T.
 unfoldable pub formula : Degrees → Patch → Patch
-formula n c j = sum-upto j (λ t. product (λ r. pos (choose (j ! r) (t ! r) * weight (n ! r) (t ! r))) *ℤ c t)
+formula n c j = sum_upto j (λ t. product (λ r. pos (choose (j ! r) (t ! r) * weight (n ! r) (t ! r))) *ℤ c t)
 
 -- p holds the stored numbers of the polynomial a on the box b: scale times 2^(n1 s1 + n2 s2 + n3 s3) times the exact coefficients.
 pub record Exact (n : Degrees) (b : Box) (a p : Patch) : Type 0 where
@@ -76,16 +76,16 @@ after b zero j = b j
 after b (suc k) j = cond (ltb k j) (after b k (j - 1) +ℤ after b k j) (after b k j)
 
 -- Lower half: entry j after the last step, times 2^(n - j). Upper half: entry n - k is the last entry after step k, times 2^(n - k); j is n - k.
-unfoldable pub half-line : Half → ℕ → (ℕ → ℤ) → ℕ → ℤ
-half-line lower n b j = pos (2 ^ (n - j)) *ℤ after b n j
-half-line upper n b j = pos (2 ^ j) *ℤ after b (n - j) n
+unfoldable pub half_line : Half → ℕ → (ℕ → ℤ) → ℕ → ℤ
+half_line lower n b j = pos (2 ^ (n - j)) *ℤ after b n j
+half_line upper n b j = pos (2 ^ j) *ℤ after b (n - j) n
 
 -- the line of p through j in direction r, and the cut of every such line
 abbrev pub line : Direction → Patch → Index → ℕ → ℤ
 line r p j i = p (replace r i j)
 
-abbrev pub half-patch : Half → Degrees → Direction → Patch → Patch
-half-patch h n r p j = half-line h (n ! r) (line r p j) (j ! r)
+abbrev pub half_patch : Half → Degrees → Direction → Patch → Patch
+half_patch h n r p j = half_line h (n ! r) (line r p j) (j ! r)
 
 -- ---- how a start makes its numbers: the coefficients times their weights, then all steps along all lines of each direction
 abbrev pub weighted : Degrees → Patch → Patch

@@ -32,8 +32,8 @@ pub record Upto (j n : Three ℕ) : Type 0 where
   pub upto : (r : Direction) → j ! r ≤ n ! r
 
 -- the sum over all I ≤ N
-unfoldable pub sum-upto : Three ℕ → (Three ℕ → ℤ) → ℤ
-sum-upto n f = sum_to (suc n.x₁) (λ i₁. sum_to (suc n.x₂) (λ i₂. sum_to (suc n.x₃) (λ i₃. f (three i₁ i₂ i₃))))
+unfoldable pub sum_upto : Three ℕ → (Three ℕ → ℤ) → ℤ
+sum_upto n f = sum_to (suc n.x₁) (λ i₁. sum_to (suc n.x₂) (λ i₂. sum_to (suc n.x₃) (λ i₃. f (three i₁ i₂ i₃))))
 
 -- the product over the directions
 abbrev pub product : (Direction → ℤ) → ℤ

@@ -1,13 +1,13 @@
 -- A box by value and its halves (01, "The numbers of a box"): six numbers as the box of three spans, which boxes are allowed, and the half in a direction.
--- Definitions only; that a child is the half that 01 says is `Child-half` in Claims.
+-- Definitions only; that a child is the half that 01 says is `ChildHalf` in Claims.
 use Rattle.std.specs.Prelude.{ℕ, zero, suc, ◌^◌, ◌≤◌, ◌<◌, Bool, cond, ◌&&◌, leb, ltb}
 use Rattle.whole.specs.Half.{Half, lower, upper}
 use Rattle.bernstein.specs.Three
 use Rattle.bernstein.specs.Three.{three, ◌!◌, first, second, third}
 use Rattle.bernstein.specs.Numbers
-use Rattle.bernstein.specs.Numbers.{Span, span, half-box}
-use Rattle.system.specs.Directions.{direction-at, each, between}
-use Rattle.system.specs.Refusals.{at-start}
+use Rattle.bernstein.specs.Numbers.{Span, span, half_box}
+use Rattle.system.specs.Directions.{direction_at, each, between}
+use Rattle.system.specs.Refusals.{at_start}
 use Rattle.system.specs.declared.refusal.Refusal.{Refusal}
 use Rattle.boxes.specs.declared.half.Direction.{Direction}
 use Rattle.boxes.specs.declared.half.Box.{Box}
@@ -19,39 +19,39 @@ direction Direction.First = first
 direction Direction.Second = second
 direction Direction.Third = third
 
-abbrev pub as-box : Box → Numbers.Box
-as-box b = three (span b.s1 b.k1) (span b.s2 b.k2) (span b.s3 b.k3)
+abbrev pub as_box : Box → Numbers.Box
+as_box b = three (span b.s1 b.k1) (span b.s2 b.k2) (span b.s3 b.k3)
 
-abbrev pub from-box : Numbers.Box → Box
-from-box c = record { s1 = c.x₁.cuts; k1 = c.x₁.position; s2 = c.x₂.cuts; k2 = c.x₂.position; s3 = c.x₃.cuts; k3 = c.x₃.position }
+abbrev pub from_box : Numbers.Box → Box
+from_box c = record { s1 = c.x₁.cuts; k1 = c.x₁.position; s2 = c.x₂.cuts; k2 = c.x₂.position; s3 = c.x₃.cuts; k3 = c.x₃.position }
 
 -- an allowed box, as the test that each call makes (01, "Runs": "refuse with 10 an s above 10 or a k not below 2^s") and as facts
-abbrev pub span-ok : Span → Bool
-span-ok i = leb i.cuts 10 && ltb i.position (2 ^ i.cuts)
+abbrev pub span_ok : Span → Bool
+span_ok i = leb i.cuts 10 && ltb i.position (2 ^ i.cuts)
 
-unfoldable pub box-ok : Box → Bool
-box-ok b = each (λ r. span-ok (as-box b ! r))
+unfoldable pub box_ok : Box → Bool
+box_ok b = each (λ r. span_ok (as_box b ! r))
 
 pub record Allowed (c : Numbers.Box) : Type 0 where
-  pub cuts-high : (r : Three.Direction) → (c ! r).cuts ≤ 10
-  pub position-high : (r : Three.Direction) → (c ! r).position < 2 ^ (c ! r).cuts
+  pub cuts_high : (r : Three.Direction) → (c ! r).cuts ≤ 10
+  pub position_high : (r : Three.Direction) → (c ! r).position < 2 ^ (c ! r).cuts
 
 -- ---- halves
 abbrev pub refused : Child
-refused = Child.Refused (at-start Refusal.OutsideRules)
+refused = Child.Refused (at_start Refusal.OutsideRules)
 
 -- "a half also at s = 10": in the direction asked for
 unfoldable pub half_in : Half → Box → Three.Direction → Child
-half_in h b r = cond (ltb (as-box b ! r).cuts 10) (Child.At (from-box (half-box h r (as-box b)))) refused
+half_in h b r = cond (ltb (as_box b ! r).cuts 10) (Child.At (from_box (half_box h r (as_box b)))) refused
 
 -- "or outside directions 1 to 3"
 unfoldable pub half_of : Half → Box → ℕ → Child
-half_of h b d = cond (box-ok b && between 1 3 d) (half_in h b (direction-at d)) refused
+half_of h b d = cond (box_ok b && between 1 3 d) (half_in h b (direction_at d)) refused
 
 -- down a path: what is refused stays refused
-abbrev pub half-on : Half → Child → ℕ → Child
-half-on h (Child.At b) d = half_of h b d
-half-on h (Child.Refused w) d = Child.Refused w
+abbrev pub half_on : Half → Child → ℕ → Child
+half_on h (Child.At b) d = half_of h b d
+half_on h (Child.Refused w) d = Child.Refused w
 
 -- the half of a side: 0 is the lower one
 abbrev pub half_at : ℕ → Half

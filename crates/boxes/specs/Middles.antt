@@ -1,39 +1,39 @@
 -- The middle and the half width of a box as doubles (01, "Runs"): (2k+1)/2^(s+1) and 1/2^(s+1), over the values of lib.Ieee. Definitions only.
 -- A finite value there is `fin sign m e`: m · 2^e, negative where the sign is true; `negsuc s` is the exponent -(s + 1).
--- That these values are exact, said in whole numbers, and that no other double is: `Doubles-exact`, `Doubles-once` in Claims.
+-- That these values are exact, said in whole numbers, and that no other double is: `DoublesExact`, `DoublesOnce` in Claims.
 use Rattle.std.specs.Prelude.{ℕ, ◌+◌, ◌*◌, ◌^◌, ◌≡◌, false, cond, negsuc}
 use lib.Ieee.{Float, nan, inf, fin, up, down}
 use Rattle.bernstein.specs.Numbers.{Span}
-use Rattle.system.specs.Refusals.{at-start}
-use Rattle.boxes.specs.Boxes.{as-box, box-ok}
+use Rattle.system.specs.Refusals.{at_start}
+use Rattle.boxes.specs.Boxes.{as_box, box_ok}
 use Rattle.system.specs.declared.refusal.Refusal.{Refusal}
 use Rattle.boxes.specs.declared.half.Box.{Box}
 use Rattle.boxes.specs.declared.middle.Middles.{Middles}
 use Rattle.boxes.specs.declared.middle.Placed.{Placed}
 
 -- m / 2^(s+1)
-abbrev pub over-power : ℕ → ℕ → Float
-over-power m s = fin false m (negsuc s)
+abbrev pub over_power : ℕ → ℕ → Float
+over_power m s = fin false m (negsuc s)
 
 abbrev pub middle : Span → Float
-middle i = over-power (2 * i.position + 1) i.cuts
+middle i = over_power (2 * i.position + 1) i.cuts
 
-abbrev pub half-width : Span → Float
-half-width i = over-power 1 i.cuts
+abbrev pub half_width : Span → Float
+half_width i = over_power 1 i.cuts
 
 abbrev pub middles : Box → Middles
 middles b = record {
-  middle1 = middle (as-box b).x₁;
-  half1 = half-width (as-box b).x₁;
-  middle2 = middle (as-box b).x₂;
-  half2 = half-width (as-box b).x₂;
-  middle3 = middle (as-box b).x₃;
-  half3 = half-width (as-box b).x₃;
+  middle1 = middle (as_box b).x₁;
+  half1 = half_width (as_box b).x₁;
+  middle2 = middle (as_box b).x₂;
+  half2 = half_width (as_box b).x₂;
+  middle3 = middle (as_box b).x₃;
+  half3 = half_width (as_box b).x₃;
 }
 
 -- refusal 10
 abbrev pub placed : Box → Placed
-placed b = cond (box-ok b) (Placed.At (middles b)) (Placed.Refused (at-start Refusal.OutsideRules))
+placed b = cond (box_ok b) (Placed.At (middles b)) (Placed.Refused (at_start Refusal.OutsideRules))
 
 -- x is finite, not negative, and exactly num / 2^shift, in whole numbers: 2^e is the fraction up e / down e, of which one side is 1
 abbrev pub Exactly : Float → ℕ → ℕ → Type 0

@@ -3,8 +3,8 @@ ghost use Rattle.std.specs.Prelude.{◌≡◌, true, ◌≤◌};
 ghost use Rattle.whole.specs.Half as Half;
 ghost use Rattle.bernstein.specs.Three.{◌!◌, replace};
 ghost use Rattle.bernstein.specs.Numbers.{span, unit};
-ghost use Rattle.system.specs.Directions.{direction-number, direction-at};
-ghost use Rattle.boxes.specs.Boxes.{direction, as-box, from-box, span-ok, box-ok, refused, half_in, half_of, half-on, half_at};
+ghost use Rattle.system.specs.Directions.{direction_number, direction_at};
+ghost use Rattle.boxes.specs.Boxes.{direction, as_box, from_box, span_ok, box_ok, refused, half_in, half_of, half_on, half_at};
 
 use system::refusal::{Refusal, Refused};
 use system::test::{both, from_to};
@@ -41,7 +41,7 @@ struct Part {
 
 impl Direction {
     pub fn number(self) -> u8
-        ensures { result ≡ direction-number (direction self) }
+        ensures { result ≡ direction_number (direction self) }
     {
         match self {
             Direction::First => 1,
@@ -52,7 +52,7 @@ impl Direction {
 }
 
 fn direction_of(dir: u8) -> Direction
-    ensures { direction result ≡ direction-at dir }
+    ensures { direction result ≡ direction_at dir }
 {
     if dir == 1 {
         return Direction::First;
@@ -64,7 +64,7 @@ fn direction_of(dir: u8) -> Direction
 }
 
 fn part_ok(s: u8, k: u16) -> bool
-    ensures { result ≡ span-ok (span s k) }
+    ensures { result ≡ span_ok (span s k) }
 {
     if s > 10 {
         return false;
@@ -80,7 +80,7 @@ fn outside() -> Child
 
 impl Box {
     pub fn unit() -> Self
-        ensures { result ≡ from-box unit }
+        ensures { result ≡ from_box unit }
     {
         Box {
             s1: 0,
@@ -93,7 +93,7 @@ impl Box {
     }
 
     pub fn ok(self) -> bool
-        ensures { result ≡ box-ok self }
+        ensures { result ≡ box_ok self }
     {
         both(
             both(part_ok(self.s1, self.k1), part_ok(self.s2, self.k2)),
@@ -102,7 +102,7 @@ impl Box {
     }
 
     fn part(self, r: Direction) -> Part
-        ensures { span result.s result.k ≡ as-box self ! direction r }
+        ensures { span result.s result.k ≡ as_box self ! direction r }
     {
         match r {
             Direction::First => Part {
@@ -121,7 +121,7 @@ impl Box {
     }
 
     fn with(mut self, r: Direction, i: Part) -> Self
-        ensures { result ≡ from-box (replace (direction r) (span i.s i.k) (as-box self)) }
+        ensures { result ≡ from_box (replace (direction r) (span i.s i.k) (as_box self)) }
     {
         match r {
             Direction::First => {
@@ -142,7 +142,7 @@ impl Box {
 
     // Side 0 is the lower half, 1 the upper.
     fn half_in(self, r: Direction, side: u16) -> Child
-        requires { (side ≤ 1) × (box-ok self ≡ true) }
+        requires { (side ≤ 1) × (box_ok self ≡ true) }
         ensures { result ≡ half_in (half_at side) self (direction r) }
     {
         let i = self.part(r);
@@ -185,7 +185,7 @@ impl Box {
 impl Child {
     fn half_again(self, dir: u8, side: u16) -> Self
         requires { side ≤ 1 }
-        ensures { result ≡ half-on (half_at side) self dir }
+        ensures { result ≡ half_on (half_at side) self dir }
     {
         match self {
             Child::At(b) => b.half(dir, side),
@@ -194,13 +194,13 @@ impl Child {
     }
 
     pub fn lower(self, dir: u8) -> Self
-        ensures { result ≡ half-on Half.lower self dir }
+        ensures { result ≡ half_on Half.lower self dir }
     {
         self.half_again(dir, 0)
     }
 
     pub fn upper(self, dir: u8) -> Self
-        ensures { result ≡ half-on Half.upper self dir }
+        ensures { result ≡ half_on Half.upper self dir }
     {
         self.half_again(dir, 1)
     }

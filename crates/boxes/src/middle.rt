@@ -1,7 +1,7 @@
 // The middle and the half width of a box in each direction, as doubles, exact.
 ghost use Rattle.std.specs.Prelude.{◌≡◌, ◌+◌, ◌^◌, ◌%◌, ◌≤◌, ◌<◌};
 ghost use Rattle.bernstein.specs.Numbers.{span};
-ghost use Rattle.boxes.specs.Middles.{over-power, middle, half-width, placed};
+ghost use Rattle.boxes.specs.Middles.{over_power, middle, half_width, placed};
 
 use crate::half::Box;
 use system::refusal::{Refusal, Refused};
@@ -39,14 +39,14 @@ fn power(s: u8) -> u16
 // m / 2^(s+1), for an odd m.
 fn over(m: u16, s: u8) -> f64
     requires { (s ≤ 10) × (m % 2 ≡ 1) }
-    ensures { result ≡ over-power m s }
+    ensures { result ≡ over_power m s }
 {
     (m as f64) / (power(s) as f64)
 }
 
 fn interval(s: u8, k: u16) -> Pair
     requires { (s ≤ 10) × (k < 1024) }
-    ensures { (result.middle ≡ middle (span s k)) × (result.half ≡ half-width (span s k)) }
+    ensures { (result.middle ≡ middle (span s k)) × (result.half ≡ half_width (span s k)) }
 {
     Pair {
         middle: over(2 * k + 1, s),

@@ -1,6 +1,6 @@
 // What a visit says: the box, and what became of it; and the words that a run ends with.
 ghost use Rattle.std.specs.Prelude.{◌≡◌, [], ◌∷◌};
-ghost use Rattle.boxes.specs.Visits.{sign-number, outcome-numbers, word_number};
+ghost use Rattle.boxes.specs.Visits.{sign_number, outcome_numbers, word_number};
 
 use crate::half::{Box, Direction};
 
@@ -42,7 +42,7 @@ pub struct Numbers {
 
 impl Sign {
     pub fn number(self) -> u8
-        ensures { result ≡ sign-number self }
+        ensures { result ≡ sign_number self }
     {
         match self {
             Sign::Above => 1,
@@ -53,7 +53,7 @@ impl Sign {
 
 impl Outcome {
     pub fn numbers(self) -> Numbers
-        ensures { (result.case ∷ result.value ∷ result.sign ∷ []) ≡ outcome-numbers self }
+        ensures { (result.case ∷ result.value ∷ result.sign ∷ []) ≡ outcome_numbers self }
     {
         match self {
             Outcome::Dropped(p, s) => Numbers {

@@ -1,4 +1,6 @@
 // The form of tests/reference/CALLS.md, for comparing programs: a call's bytes taken from the input, and its seven lines put into lent bytes.
+#![tactic(auto)]
+
 pub mod answers;
 pub mod hash;
 pub mod header;

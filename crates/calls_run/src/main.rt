@@ -1,5 +1,7 @@
 // Makes calls of the library, each on the memory that it brings along, and prints their answers and the memory after them.
 // tests/reference/CALLS.md has the form of both. Nothing is printed of a call that is not in that form, or after it.
+#![tactic(auto)]
+
 mod boxing;
 mod filing;
 mod making;

@@ -16,32 +16,32 @@ use Rattle.boxes.specs.declared.visit.Word.{Word}
 use Rattle.search.specs.Machine.{Machine, Turn, nothing, no_room, go, Stop, stop, finished, full, drive}
 use Rattle.search.specs.Search.{Entry}
 use Rattle.search.specs.Lent.{lent}
-use Rattle.search.proofs.Machine.{drive-nothing, drive-spent, drive-full, drive-go, go-waits, no-room-waits}
+use Rattle.search.proofs.Machine.{drive_nothing, drive_spent, drive_full, drive_go, go_waits, no_room_waits}
 use Rattle.runs.specs.declared.runs.Answer.{Answer}
 use Rattle.runs.specs.declared.visits.Answer as Visit
 use Rattle.runs.specs.Runs.{Run, run_of}
-use Rattle.runs.specs.Visits.{One, visit-of}
+use Rattle.runs.specs.Visits.{One, visit_of}
 use Rattle.waiting.specs.declared.state.State.{State}
 use Rattle.waiting.specs.declared.cursor.Kept.{Kept}
 use Rattle.waiting.specs.declared.cursor.Cursor.{Cursor}
 use Rattle.waiting.specs.Cells.{boxed, cells}
 use Rattle.waiting.specs.States.{judged}
-use Rattle.waiting.specs.States.{memory-of, state-of}
+use Rattle.waiting.specs.States.{memory_of, state_of}
 use Rattle.waiting.specs.Steps.{begun, due, seen}
-use Rattle.waiting.specs.Runs.{Way, way, turned, went, forget, remember, Ends, One-turn}
-use Rattle.waiting.proofs.Judging.{judged-allowed}
-use Rattle.waiting.proofs.Driving.{run-drives, turn-turns, remembered}
+use Rattle.waiting.specs.Runs.{Way, way, turned, went, forget, remember, Ends, OneTurn}
+use Rattle.waiting.proofs.Judging.{judged_allowed}
+use Rattle.waiting.proofs.Driving.{run_drives, turn_turns, remembered}
 use Rattle.claims.specs.Calls.{Memory, called}
-use Rattle.claims.specs.Caller.{Gives, Run-is-a-call, Tells, Visit-is-a-visit, Same-effects, Visit-is-a-run, Refusal-changes-nothing}
+use Rattle.claims.specs.Caller.{Gives, RunIsACall, Tells, VisitIsAVisit, SameEffects, VisitIsARun, RefusalChangesNothing}
 
 -- those kept are there
 kept_there : (h : Head) (s : State) (list : List (Entry Box)) (st : List ℤ) → judged h s st (map forget list) ≡ Checked.Good → s.kept ≤ length list
-kept_there h s list st e = omega (arith, ((judged-allowed h s st (map forget list)).0 e).2.kept_high, length-map list forget)
+kept_there h s list st e = omega (arith, ((judged_allowed h s st (map forget list)).0 e).2.kept_high, length-map list forget)
 
-pub run-is-a-call : Run-is-a-call
-run-is-a-call h s budget list st e =
+pub run_is_a_call : RunIsACall
+run_is_a_call h s budget list st e =
     let c = begun s budget (length list) in
-    let d : Ends (went (boxed h) (suc budget) (way (map forget list) st c)) (called h budget (memory-of st list s)) = run-drives ℤ (boxed h) list st c refl refl (kept_there h s list st e) in
+    let d : Ends (went (boxed h) (suc budget) (way (map forget list) st c)) (called h budget (memory_of st list s)) = run_drives ℤ (boxed h) list st c refl refl (kept_there h s list st e) in
     rw (e, length-map list forget, add-one budget)
     (record { answer = ap₂ (λ (w : Word) (k : State). Answer.Stopped (record { word = w; state = k })) d.word d.state; leaves = record { list = d.list; store = d.store } })
 
@@ -60,7 +60,7 @@ module _ (h : Head) (s : State) (list : List (Entry Box)) (st : List ℤ) where
   abbrev told : Seen.Visit
   told = seen (boxed h) st before (due (boxed h) st before)
 
-  tells : (t : Turn) → One-turn (boxed h) list st before t → Tells (record { answer = answer told after.cursor; end = after }) h (memory-of st list s) t
+  tells : (t : Turn) → OneTurn (boxed h) list st before t → Tells (record { answer = answer told after.cursor; end = after }) h (memory_of st list s) t
   tells nothing q = (ap (λ (w : Way ℤ). answer told w.cursor) q, record { list = ap (λ (w : Way ℤ). w.list) q; store = ap (λ (w : Way ℤ). w.store) q })
   tells no_room q = (ap (λ (w : Way ℤ). answer told w.cursor) q, record { list = ap (λ (w : Way ℤ). w.list) q; store = ap (λ (w : Way ℤ). w.store) q })
   tells go q = (
@@ -69,52 +69,52 @@ module _ (h : Head) (s : State) (list : List (Entry Box)) (st : List ℤ) where
     record { list = q.0.list; store = q.0.store },
   )
 
-pub visit-is-a-visit : Visit-is-a-visit
-visit-is-a-visit h s list st e =
-    let t = turn-turns ℤ (boxed h) list st (begun s 1 (length list)) (omega arith) refl (kept_there h s list st e) in
-    rw (e, length-map list forget) (tells h s list st ((lent (cells h)).turn (length list) (memory-of st list s)) t)
+pub visit_is_a_visit : VisitIsAVisit
+visit_is_a_visit h s list st e =
+    let t = turn_turns ℤ (boxed h) list st (begun s 1 (length list)) (omega arith) refl (kept_there h s list st e) in
+    rw (e, length-map list forget) (tells h s list st ((lent (cells h)).turn (length list) (memory_of st list s)) t)
 
 -- ---- refusals
-pub refusal-changes-nothing : Refusal-changes-nothing
+pub refusal_changes_nothing : RefusalChangesNothing
 unfolding went
-refusal-changes-nothing h s list st x e = rw e (λ budget. rw (add-one budget) (refl, record { list-stays = refl; store-stays = refl }), (refl, record { list-stays = refl; store-stays = refl }))
+refusal_changes_nothing h s list st x e = rw e (λ budget. rw (add-one budget) (refl, record { list_stays = refl; store_stays = refl }), (refl, record { list_stays = refl; store_stays = refl }))
 
 -- ---- a visit is a run with a budget of one: both are what the lent machine does
 -- with no budget nothing moves
-pub no-budget : (M : Machine) (room : ℕ) (s : M.State) → (drive M 0 room s).state ≡ s
-no-budget M room s = from (M.turn room s) refl
+pub no_budget : (M : Machine) (room : ℕ) (s : M.State) → (drive M 0 room s).state ≡ s
+no_budget M room s = from (M.turn room s) refl
   where
     from : (t : Turn) → M.turn room s ≡ t → (drive M 0 room s).state ≡ s
-    from nothing e = ap (λ (x : Stop M.State). x.state) (drive-nothing M room s 0 e)
-    from no_room e = ap (λ (x : Stop M.State). x.state) (drive-spent M room s (no-room-waits e))
-    from go e = ap (λ (x : Stop M.State). x.state) (drive-spent M room s (go-waits e))
+    from nothing e = ap (λ (x : Stop M.State). x.state) (drive_nothing M room s 0 e)
+    from no_room e = ap (λ (x : Stop M.State). x.state) (drive_spent M room s (no_room_waits e))
+    from go e = ap (λ (x : Stop M.State). x.state) (drive_spent M room s (go_waits e))
 
 -- from what each of them is
-pub same-effects : (h : Head) (s : State) (f : Memory) (v : One) (r : Run) → s ≡ state-of f → (t : Turn) → (lent (cells h)).turn (length f.list) f ≡ t → Tells v h f t → Gives r h 1 f → Same-effects s v r
-same-effects h s f v r k nothing e q g =
-    let d : called h 1 f ≡ stop f finished = drive-nothing (lent (cells h)) (length f.list) f 1 e in
+pub same_effects : (h : Head) (s : State) (f : Memory) (v : One) (r : Run) → s ≡ state_of f → (t : Turn) → (lent (cells h)).turn (length f.list) f ≡ t → Tells v h f t → Gives r h 1 f → SameEffects s v r
+same_effects h s f v r k nothing e q g =
+    let d : called h 1 f ≡ stop f finished = drive_nothing (lent (cells h)) (length f.list) f 1 e in
     record { answers = rw (q.0, g.answer, d) (refl, k); list = q.1.list ∙ rw (g.leaves.list, d); store = q.1.store ∙ rw (g.leaves.store, d) }
-same-effects h s f v r k no_room e q g =
-    let d : called h 1 f ≡ stop f full = drive-full (lent (cells h)) (length f.list) f 0 e in
+same_effects h s f v r k no_room e q g =
+    let d : called h 1 f ≡ stop f full = drive_full (lent (cells h)) (length f.list) f 0 e in
     record { answers = rw (q.0, g.answer, d) (refl, k); list = q.1.list ∙ rw (g.leaves.list, d); store = q.1.store ∙ rw (g.leaves.store, d) }
-same-effects h s f v r k go e q g =
-    let d : (called h 1 f).state ≡ (lent (cells h)).visit f = ap (λ (x : Stop Memory). x.state) (drive-go (lent (cells h)) (length f.list) f 0 e) ∙ no-budget (lent (cells h)) (length f.list) ((lent (cells h)).visit f) in
+same_effects h s f v r k go e q g =
+    let d : (called h 1 f).state ≡ (lent (cells h)).visit f = ap (λ (x : Stop Memory). x.state) (drive_go (lent (cells h)) (length f.list) f 0 e) ∙ no_budget (lent (cells h)) (length f.list) ((lent (cells h)).visit f) in
     record { answers = rw (q.0, g.answer, d) refl; list = q.1.list ∙ rw (g.leaves.list, d); store = q.1.store ∙ rw (g.leaves.store, d) }
 
-pub visit-is-a-run : Visit-is-a-run
-visit-is-a-run h s list st = from (judged h s st list) refl
+pub visit_is_a_run : VisitIsARun
+visit_is_a_run h s list st = from (judged h s st list) refl
   where
-    entries : (k : List (Entry Box)) → judged h s st (map forget k) ≡ Checked.Good → Same-effects s (visit-of h s (map forget k) st) (run_of h s 1 (map forget k) st)
-    entries k e = same-effects h s (memory-of st k s) _ _ refl ((lent (cells h)).turn (length k) (memory-of st k s)) refl (visit-is-a-visit h s k st e) (run-is-a-call h s 1 k st e)
+    entries : (k : List (Entry Box)) → judged h s st (map forget k) ≡ Checked.Good → SameEffects s (visit_of h s (map forget k) st) (run_of h s 1 (map forget k) st)
+    entries k e = same_effects h s (memory_of st k s) _ _ refl ((lent (cells h)).turn (length k) (memory_of st k s)) refl (visit_is_a_visit h s k st e) (run_is_a_call h s 1 k st e)
 
-    from : (v : Checked) → judged h s st list ≡ v → Same-effects s (visit-of h s list st) (run_of h s 1 list st)
+    from : (v : Checked) → judged h s st list ≡ v → SameEffects s (visit_of h s list st) (run_of h s 1 list st)
     from Good e =
-        subst (λ (l : List Kept). Same-effects s (visit-of h s l st) (run_of h s 1 l st)) (remembered list)
+        subst (λ (l : List Kept). SameEffects s (visit_of h s l st) (run_of h s 1 l st)) (remembered list)
         (entries (map remember list) (ap (judged h s st) (remembered list) ∙ e))
     from (Stopped-by x) e =
-        let q = refusal-changes-nothing h s list st x e in
+        let q = refusal_changes_nothing h s list st x e in
         record {
           answers = rw ((q.0 1).0, q.1.0) refl;
-          list = q.1.1.list-stays ∙ sym (q.0 1).1.list-stays;
-          store = q.1.1.store-stays ∙ sym (q.0 1).1.store-stays;
+          list = q.1.1.list_stays ∙ sym (q.0 1).1.list_stays;
+          store = q.1.1.store_stays ∙ sym (q.0 1).1.store_stays;
         }

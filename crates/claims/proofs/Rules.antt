@@ -10,7 +10,7 @@ use borrow.Author.Tests.{ltb-true, ltb-false}
 use lib.Dec.{ltb}
 use lib.IntN.{ℤ}
 use lib.ListN.{length}
-use Rattle.whole.proofs.Parts.{by-lt}
+use Rattle.whole.proofs.Parts.{by_lt}
 use Rattle.bernstein.specs.Three.{◌!◌}
 use Rattle.bernstein.specs.Places.{size}
 use Rattle.system.specs.declared.head.Head.{Head}
@@ -18,31 +18,31 @@ use Rattle.boxes.specs.declared.half.Direction.{Direction}
 use Rattle.boxes.specs.declared.half.Direction.TheVariants.{First, Second, Third}
 use Rattle.boxes.specs.declared.visit.Outcome.{Outcome}
 use Rattle.boxes.specs.Boxes.{direction}
-use Rattle.system.specs.Directions.{direction-number}
+use Rattle.system.specs.Directions.{direction_number}
 use Rattle.system.specs.Heads.{degrees, width}
 use Rattle.slots.specs.declared.Decision.{Decision}
 use Rattle.slots.specs.declared.Choice.{Choice}
 use Rattle.slots.specs.Slots.{at, numbers}
-use Rattle.slots.specs.Rules.{decided, better, chosen, limit, can-cut, able, by-choice, looked-by, looked}
-use Rattle.waiting.specs.Cells.{as-look}
-use Rattle.waiting.proofs.Judging.{every-says}
-use Rattle.claims.specs.Rules.{cuts, most, Mixed-below, Direction-due, Can-be-cut, Says, Rules-mean}
-use Rattle.claims.proofs.Signs.{Told, tell, whole, one-sided, mixed}
+use Rattle.slots.specs.Rules.{decided, better, chosen, limit, can_cut, able, by_choice, looked_by, looked}
+use Rattle.waiting.specs.Cells.{as_look}
+use Rattle.waiting.proofs.Judging.{every_says}
+use Rattle.claims.specs.Rules.{cuts, most, MixedBelow, DirectionDue, CanBeCut, Says, RulesMean}
+use Rattle.claims.proofs.Signs.{Told, tell, whole, one_sided, mixed}
 
 -- ---- the number of a direction
 abbrev pub number : Direction → ℕ
-number r = direction-number (direction r)
+number r = direction_number (direction r)
 
-pub number-once : (q r : Direction) → number q ≡ number r → q ≡ r
-number-once First First e = refl
-number-once First Second e = absurd (omega arith)
-number-once First Third e = absurd (omega arith)
-number-once Second First e = absurd (omega arith)
-number-once Second Second e = refl
-number-once Second Third e = absurd (omega arith)
-number-once Third First e = absurd (omega arith)
-number-once Third Second e = absurd (omega arith)
-number-once Third Third e = refl
+pub number_once : (q r : Direction) → number q ≡ number r → q ≡ r
+number_once First First e = refl
+number_once First Second e = absurd (omega arith)
+number_once First Third e = absurd (omega arith)
+number_once Second First e = absurd (omega arith)
+number_once Second Second e = refl
+number_once Second Third e = absurd (omega arith)
+number_once Third First e = absurd (omega arith)
+number_once Third Second e = absurd (omega arith)
+number_once Third Third e = refl
 
 module _ (h : Head) (l : List ℤ) (long : length l ≡ width h) where
   -- ---- 3. the direction
@@ -50,19 +50,19 @@ module _ (h : Head) (l : List ℤ) (long : length l ≡ width h) where
   Before r q = (cuts h l r < cuts h l q) ⊎ ((cuts h l r ≡ cuts h l q) × (number r ≤ number q))
 
   -- of the directions up to number k
-  pub record Best-one (k : ℕ) (r : Direction) : Type 0 where
+  pub record BestOne (k : ℕ) (r : Direction) : Type 0 where
     pub seen : number r ≤ k
     pub below : cuts h l r < most h l r
     pub before : (q : Direction) → number q ≤ k → cuts h l q < most h l q → Before r q
 
   abbrev Best : ℕ → Choice → Type 0
   Best k Choice.Nowhere = (q : Direction) → number q ≤ k → most h l q ≤ cuts h l q
-  Best k (Choice.Along r) = Best-one k r
+  Best k (Choice.Along r) = BestOne k r
 
   -- direction r comes next
   module _ (k : ℕ) (r : Direction) (next : number r ≡ suc k) where
     up_to : (P : Direction → Type 0) → P r → ((q : Direction) → number q ≤ k → P q) → (q : Direction) → number q ≤ suc k → P q
-    up_to P p f q b = by-lt (number q) (suc k) (λ c. f q (omega arith)) (λ c. subst P (number-once r q (omega arith)) p)
+    up_to P p f q b = by_lt (number q) (suc k) (λ c. f q (omega arith)) (λ c. subst P (number_once r q (omega arith)) p)
 
     best : (c : Choice) → Best k c → Best (suc k) (better h l c r)
     best Choice.Nowhere f = from (ltb (cuts h l r) (most h l r)) refl
@@ -81,7 +81,7 @@ module _ (h : Head) (l : List ℤ) (long : length l ≡ width h) where
         over d q (inl c) = inl (omega arith)
         over d q (inr c) = inl (omega (arith, c.0))
 
-        stays : (cuts h l r < most h l r → Before p r) → Best-one (suc k) p
+        stays : (cuts h l r < most h l r → Before p r) → BestOne (suc k) p
         stays d = record { seen = omega (arith, f.seen); below = f.below; before = up_to (λ q. cuts h l q < most h l q → Before p q) d f.before }
 
         from : (b c : Bool) → ltb (cuts h l r) (most h l r) ≡ b → ltb (cuts h l r) (cuts h l p) ≡ c → Best (suc k) (cond (b && c) (Choice.Along r) (Choice.Along p))
@@ -90,12 +90,12 @@ module _ (h : Head) (l : List ℤ) (long : length l ≡ width h) where
           below = ltb-true _ _ e;
           before = up_to (λ q. cuts h l q < most h l q → Before r q) (λ b. inr (refl, omega arith)) (λ q n b. over (ltb-true _ _ d) q (f.before q n b));
         }
-        from true false e d = stays (λ b. by-lt (cuts h l p) (cuts h l r) (λ c. inl c) (λ c. inr (omega (arith, c, ltb-false (cuts h l r) (cuts h l p) d), omega (arith, f.seen))))
+        from true false e d = stays (λ b. by_lt (cuts h l p) (cuts h l r) (λ c. inl c) (λ c. inr (omega (arith, c, ltb-false (cuts h l r) (cuts h l p) d), omega (arith, f.seen))))
         from false c e d = stays (λ b. absurd (omega (arith, b, ltb-false (cuts h l r) (most h l r) e)))
 
-  chosen-best : Best 3 (chosen h l)
+  chosen_best : Best 3 (chosen h l)
   unfolding chosen
-  chosen-best =
+  chosen_best =
       best 2 Third refl (better h l (better h l Choice.Nowhere First) Second) (best 1 Second refl (better h l Choice.Nowhere First) (best 0 First refl Choice.Nowhere (λ q n. absurd (none q n))))
     where
       none : (q : Direction) → number q ≤ 0 → ⊥
@@ -108,38 +108,38 @@ module _ (h : Head) (l : List ℤ) (long : length l ≡ width h) where
   every_one Second = omega arith
   every_one Third = omega arith
 
-  due : {r : Direction} → Best-one 3 r → Direction-due h l r
+  due : {r : Direction} → BestOne 3 r → DirectionDue h l r
   due b = record { below = b.below; fewest = λ q c. b.before q (every_one q) c }
 
   -- ---- what can be cut
-  small : (r : Direction) → can-cut h (direction r) l ≡ true → Can-be-cut h l r
-  small r e i b = (every-says (limit (degrees h ! direction r)) (numbers l)).fact e i (rw (whole h l long) b)
+  small : (r : Direction) → can_cut h (direction r) l ≡ true → CanBeCut h l r
+  small r e i b = (every_says (limit (degrees h ! direction r)) (numbers l)).fact e i (rw (whole h l long) b)
 
-  large : (r : Direction) → can-cut h (direction r) l ≡ false → Can-be-cut h l r → ⊥
+  large : (r : Direction) → can_cut h (direction r) l ≡ false → CanBeCut h l r → ⊥
   large r e c =
-      let f : can-cut h (direction r) l ≡ true = (every-says (limit (degrees h ! direction r)) (numbers l)).passes (λ i b. c i (rw (whole h l long) at b)) in
+      let f : can_cut h (direction r) l ≡ true = (every_says (limit (degrees h ! direction r)) (numbers l)).passes (λ i b. c i (rw (whole h l long) at b)) in
       let z : ◌≡◌ {A = ℕ} 0 1 = cc in omega arith
 
   -- ---- the steps in order
   module _ (deep : (r : Direction) → cuts h l r ≤ most h l r) where
-    by-direction : Mixed-below h l h.m → (c : Choice) → Best 3 c → Says h l (as-look (by-choice (able h l) c))
-    by-direction m Choice.Nowhere b = (m, inl (refl, λ r. omega (arith, deep r, b r (every_one r))))
-    by-direction m (Choice.Along r) b = from (can-cut h (direction r) l) refl
+    by_direction : MixedBelow h l h.m → (c : Choice) → Best 3 c → Says h l (as_look (by_choice (able h l) c))
+    by_direction m Choice.Nowhere b = (m, inl (refl, λ r. omega (arith, deep r, b r (every_one r))))
+    by_direction m (Choice.Along r) b = from (can_cut h (direction r) l) refl
       where
-        from : (t : Bool) → can-cut h (direction r) l ≡ t → Says h l (as-look (cond t (Outcome.Cut r) (Outcome.Kept 2)))
+        from : (t : Bool) → can_cut h (direction r) l ≡ t → Says h l (as_look (cond t (Outcome.Cut r) (Outcome.Kept 2)))
         from true e = (m, due b, small r e)
         from false e = (m, inr (refl, (r, due b, large r e)))
 
-    by_sign : (d : Decision) → Told h.m (size (degrees h)) 1 (numbers l) d → Says h l (as-look (looked-by h l d (able h l)))
+    by_sign : (d : Decision) → Told h.m (size (degrees h)) 1 (numbers l) d → Says h l (as_look (looked_by h l d (able h l)))
     by_sign (Decision.By p s) t = record {
       which = t.which;
       is_one = t.is_one;
       number = t.number;
-      decides = one-sided h l long t.which t.is_one s t.decides;
+      decides = one_sided h l long t.which t.is_one s t.decides;
       lowest = mixed h l long t.which (omega (arith, t.is_one)) t.lowest;
     }
-    by_sign Decision.Open t = by-direction (mixed h l long h.m (omega arith) t) (chosen h l) chosen-best
+    by_sign Decision.Open t = by_direction (mixed h l long h.m (omega arith) t) (chosen h l) chosen_best
 
-pub rules-mean : Rules-mean
+pub rules_mean : RulesMean
 unfolding looked
-rules-mean h l long deep = by_sign h l long deep (decided h.m (size (degrees h)) 1 (numbers l)) (tell h.m (size (degrees h)) 1 (numbers l))
+rules_mean h l long deep = by_sign h l long deep (decided h.m (size (degrees h)) 1 (numbers l)) (tell h.m (size (degrees h)) 1 (numbers l))

@@ -19,26 +19,26 @@ use Rattle.boxes.specs.Visits.{sign}
 use Rattle.slots.specs.declared.Decision.{Decision}
 use Rattle.slots.specs.Slots.{at, numbers}
 use Rattle.slots.specs.Rules.{every, has, decided}
-use Rattle.slots.proofs.Decided.{every-at}
-use Rattle.claims.specs.Rules.{OneSided, Mixed-below}
+use Rattle.slots.proofs.Decided.{every_at}
+use Rattle.claims.specs.Rules.{OneSided, MixedBelow}
 
 -- ---- 1. by the tests of the parts of a list
 abbrev pub One : (S : ℕ) (xs : List ℤ) (t : ℕ) → Sign → Type 0
 One S xs t s = every (has s) (take S (drop (t * S) xs)) ≡ true
 
-abbrev pub None-below : (S : ℕ) (xs : List ℤ) (t : ℕ) → Type 0
-None-below S xs t = (u : ℕ) → u < t → (s : Sign) → One S xs u s → ⊥
+abbrev pub NoneBelow : (S : ℕ) (xs : List ℤ) (t : ℕ) → Type 0
+NoneBelow S xs t = (u : ℕ) → u < t → (s : Sign) → One S xs u s → ⊥
 
-pub record First-one (count S p : ℕ) (xs : List ℤ) (q : ℕ) (s : Sign) : Type 0 where
+pub record FirstOne (count S p : ℕ) (xs : List ℤ) (q : ℕ) (s : Sign) : Type 0 where
   pub which : ℕ
   pub is_one : which < count
   pub number : q ≡ p + which
   pub decides : One S xs which s
-  pub lowest : None-below S xs which
+  pub lowest : NoneBelow S xs which
 
 abbrev pub Told : (count S p : ℕ) (xs : List ℤ) → Decision → Type 0
-Told count S p xs (Decision.By q s) = First-one count S p xs q s
-Told count S p xs Decision.Open = None-below S xs count
+Told count S p xs (Decision.By q s) = FirstOne count S p xs q s
+Told count S p xs Decision.Open = NoneBelow S xs count
 
 pub tell : (count S p : ℕ) (xs : List ℤ) → Told count S p xs (decided count S p xs)
 unfolding decided
@@ -51,18 +51,18 @@ tell (suc count) S p xs = from (every (has Above) (take S xs)) (every (has Below
     more : (w : ℕ) → S + w * S ≡ suc w * S
     more w = omega arith
 
-    first : (s : Sign) → every (has s) (take S xs) ≡ true → First-one (suc count) S p xs p s
+    first : (s : Sign) → every (has s) (take S xs) ≡ true → FirstOne (suc count) S p xs p s
     first s f = record { which = 0; is_one = omega arith; number = omega arith; decides = rw none f; lowest = λ u l s e. NatL.not-suc-le-zero l }
 
     later : (w : ℕ) (s : Sign) → One S (drop S xs) w s ≡ One S xs (suc w) s
     later w s = ap (λ (ys : List ℤ). every (has s) (take S ys) ≡ true) (drop-drop (w * S) S xs ∙ ap (λ (n : ℕ). drop n xs) (more w))
 
-    is-not : {b : Bool} → b ≡ false → b ≡ true → ⊥
-    is-not e f = let z : ◌≡◌ {A = ℕ} 0 1 = cc in omega arith
+    is_not : {b : Bool} → b ≡ false → b ≡ true → ⊥
+    is_not e f = let z : ◌≡◌ {A = ℕ} 0 1 = cc in omega arith
 
-    shift : every (has Above) (take S xs) ≡ false → every (has Below) (take S xs) ≡ false → (n : ℕ) → None-below S (drop S xs) n → None-below S xs (suc n)
-    shift f g n m zero l Above e = is-not f (rw none at e)
-    shift f g n m zero l Below e = is-not g (rw none at e)
+    shift : every (has Above) (take S xs) ≡ false → every (has Below) (take S xs) ≡ false → (n : ℕ) → NoneBelow S (drop S xs) n → NoneBelow S xs (suc n)
+    shift f g n m zero l Above e = is_not f (rw none at e)
+    shift f g n m zero l Below e = is_not g (rw none at e)
     shift f g n m (suc u) l s e = m u (omega arith) s (subst (λ (X : Type 0). X) (sym (later u s)) e)
 
     after : every (has Above) (take S xs) ≡ false → every (has Below) (take S xs) ≡ false → (d : Decision) → Told count S (suc p) (drop S xs) d → Told (suc count) S p xs d
@@ -91,13 +91,13 @@ is_true : (b : Bool) → T b → b ≡ true
 is_true true t = refl
 is_true false t = absurd t
 
-has-sign : (s : Sign) (z : ℤ) → has s z ≡ true → Has (sign s) z
-has-sign Above z e = record { lt = subst T (sym e) tt }
-has-sign Below z e = record { lt = subst T (sym e) tt }
+has_sign : (s : Sign) (z : ℤ) → has s z ≡ true → Has (sign s) z
+has_sign Above z e = record { lt = subst T (sym e) tt }
+has_sign Below z e = record { lt = subst T (sym e) tt }
 
-sign-has : (s : Sign) (z : ℤ) → Has (sign s) z → has s z ≡ true
-sign-has Above z p = is_true (has Above z) p.lt
-sign-has Below z p = is_true (has Below z) p.lt
+sign_has : (s : Sign) (z : ℤ) → Has (sign s) z → has s z ≡ true
+sign_has Above z p = is_true (has Above z) p.lt
+sign_has Below z p = is_true (has Below z) p.lt
 
 module _ (h : Head) (l : List ℤ) (long : length l ≡ width h) where
   abbrev pub S : ℕ
@@ -116,11 +116,11 @@ module _ (h : Head) (l : List ℤ) (long : length l ≡ width h) where
     number_at : (i : ℕ) → i < S → at (take S (drop (t * S) (numbers l))) i ≡ at (numbers l) (t * S + i)
     number_at i b = get_or-take S (drop (t * S) (numbers l)) i (pos 0) b ∙ get_or-drop (t * S) (numbers l) i (pos 0)
 
-    pub one-sided : One S (numbers l) t s → OneSided h l t s
-    one-sided e = record { has = λ i b. has-sign s _ (subst (λ (z : ℤ). has s z ≡ true) (number_at i b) (every-at (has s) (take S (drop (t * S) (numbers l))) e i (rw part b))) }
+    pub one_sided : One S (numbers l) t s → OneSided h l t s
+    one_sided e = record { has = λ i b. has_sign s _ (subst (λ (z : ℤ). has s z ≡ true) (number_at i b) (every_at (has s) (take S (drop (t * S) (numbers l))) e i (rw part b))) }
 
-    pub sided-one : OneSided h l t s → One S (numbers l) t s
-    sided-one o = every_of (has s) (take S (drop (t * S) (numbers l))) (λ i b. let c : i < S = rw part at b in subst (λ (z : ℤ). has s z ≡ true) (sym (number_at i c)) (sign-has s _ (o.has i c)))
+    pub sided_one : OneSided h l t s → One S (numbers l) t s
+    sided_one o = every_of (has s) (take S (drop (t * S) (numbers l))) (λ i b. let c : i < S = rw part at b in subst (λ (z : ℤ). has s z ≡ true) (sym (number_at i c)) (sign_has s _ (o.has i c)))
 
-  pub mixed : (t : ℕ) → t ≤ h.m → None-below S (numbers l) t → Mixed-below h l t
-  mixed t m n u b s o = n u b s (sided-one u (omega arith) s o)
+  pub mixed : (t : ℕ) → t ≤ h.m → NoneBelow S (numbers l) t → MixedBelow h l t
+  mixed t m n u b s o = n u b s (sided_one u (omega arith) s o)

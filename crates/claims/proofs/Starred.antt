@@ -2,16 +2,16 @@
 use mathlib.Core.Path.{refl}
 use mathlib.Core.List.{List, [], ◌∷◌, ◌++◌}
 use Rattle.whole.specs.Sums.{sum_to, choose}
-use Rattle.bernstein.specs.Three.{sum-upto}
-use Rattle.bernstein.specs.Numbers.{formula, scale, weight, after, half-line}
+use Rattle.bernstein.specs.Three.{sum_upto}
+use Rattle.bernstein.specs.Numbers.{formula, scale, weight, after, half_line}
 use Rattle.bernstein.specs.Places.{place, size}
 use Rattle.system.specs.Heads.{places, head_ok}
-use Rattle.slots.specs.Slots.{build, in-turn, half-slot, unit-slot}
+use Rattle.slots.specs.Slots.{build, in_turn, half_slot, unit_slot}
 use Rattle.slots.specs.Rules.{every, decided, chosen, looked}
 use Rattle.search.specs.Lists.{All}
-use Rattle.search.specs.Lent.{lent-become}
-use Rattle.waiting.specs.States.{span-ok, slot_ok, slots-ok, counts-ok, records-ok, list-ok, judged-by}
-use Rattle.waiting.specs.Starts.{start-check, fresh-store}
+use Rattle.search.specs.Lent.{lent_become}
+use Rattle.waiting.specs.States.{span_ok, slot_ok, slots_ok, counts_ok, records_ok, list_ok, judged_by}
+use Rattle.waiting.specs.Starts.{start_check, fresh_store}
 use Rattle.waiting.specs.Steps.{due, visited, next}
 use Rattle.waiting.specs.Runs.{went}
 use Rattle.file.specs.Bytes.{signed32}
@@ -20,10 +20,10 @@ use Rattle.file.specs.Terms.{term, terms, coefficients}
 use Rattle.file.specs.Reading.{polynomial, ending, polynomials, numbers_of, checked, reads}
 use Rattle.desk.specs.Text.{digits, decimal, ended, line}
 use Rattle.runs.specs.Lists.{taken}
-use Rattle.desk.specs.Lines.{kept-lines}
-use Rattle.desk.specs.Report.{run-found, system-found, file-found, found, report}
-use Rattle.claims.specs.Starred.{Case, Right, examples, limits, refusals, told, Starred-right}
-use Rattle.claims.specs.Program.{Prints-F, Prints-three, Prints-of-no-bytes}
+use Rattle.desk.specs.Lines.{kept_lines}
+use Rattle.desk.specs.Report.{run_found, system_found, file_found, found, report}
+use Rattle.claims.specs.Starred.{Case, Right, examples, limits, refusals, told, StarredRight}
+use Rattle.claims.specs.Program.{PrintsF, PrintsThree, PrintsOfNoBytes}
 
 infixr 20 ◌and◌
 ◌and◌ : {P Q : Type 0} → P → Q → P × Q
@@ -33,48 +33,48 @@ all_of : (xs ys : List Case) → All Right xs → All Right ys → All Right (xs
 all_of [] ys a b = b
 all_of (x ∷ xs) ys a b = (a.0, all_of xs ys a.1 b)
 
-examples-right : All Right examples
-unfolding start-check fresh-store judged-by list-ok records-ok counts-ok slots-ok slot_ok span-ok went next due visited lent-become head_ok
-    unit-slot in-turn build formula sum-upto sum_to choose weight scale place size places after half-line half-slot looked decided every chosen
-examples-right =
+examples_right : All Right examples
+unfolding start_check fresh_store judged_by list_ok records_ok counts_ok slots_ok slot_ok span_ok went next due visited lent_become head_ok
+    unit_slot in_turn build formula sum_upto sum_to choose weight scale place size places after half_line half_slot looked decided every chosen
+examples_right =
     (refl and refl) and refl and refl and (refl and refl) and refl and refl and (refl and refl) and (refl and refl)
     and (refl and refl) and (refl and refl) and (refl and refl) and (refl and refl) and tt
 
-limits-right : All Right limits
-unfolding start-check fresh-store judged-by list-ok records-ok counts-ok slots-ok slot_ok span-ok went next due visited lent-become head_ok
-    unit-slot in-turn build formula sum-upto sum_to choose weight scale place size places after half-line half-slot looked decided every chosen
-limits-right =
+limits_right : All Right limits
+unfolding start_check fresh_store judged_by list_ok records_ok counts_ok slots_ok slot_ok span_ok went next due visited lent_become head_ok
+    unit_slot in_turn build formula sum_upto sum_to choose weight scale place size places after half_line half_slot looked decided every chosen
+limits_right =
     refl and refl and refl and refl and refl and refl and refl and refl and refl and refl and refl and refl and refl and refl
     and refl and refl and refl and refl and refl and tt
 
-refusals-right : All Right refusals
+refusals_right : All Right refusals
 unfolding reads checked polynomials polynomial ending numbers_of record-due terms term coefficients signed32 head_ok place size places
-refusals-right =
+refusals_right =
     refl and refl and refl and refl and refl and refl and refl and refl and refl and refl and refl and refl and refl and refl
     and refl and refl and refl and refl and refl and refl and refl and refl and tt
 
-told-right : All Right told
+told_right : All Right told
 unfolding line ended decimal digits
-told-right = refl and refl and tt
+told_right = refl and refl and tt
 
-pub starred-right : Starred-right
-starred-right =
-    all_of examples (limits ++ (refusals ++ told)) examples-right (all_of limits (refusals ++ told) limits-right (all_of refusals told refusals-right told-right))
+pub starred_right : StarredRight
+starred_right =
+    all_of examples (limits ++ (refusals ++ told)) examples_right (all_of limits (refusals ++ told) limits_right (all_of refusals told refusals_right told_right))
 
-pub prints-three : Prints-three
-unfolding report found file-found system-found run-found reads checked polynomials polynomial ending numbers_of record-due terms term coefficients signed32
-    taken kept-lines line ended decimal digits
-    start-check fresh-store judged-by list-ok records-ok counts-ok slots-ok slot_ok span-ok went next due visited lent-become head_ok
-    unit-slot in-turn build formula sum-upto sum_to choose weight scale place size places after half-line half-slot looked decided every chosen
-prints-three = refl
+pub prints_three : PrintsThree
+unfolding report found file_found system_found run_found reads checked polynomials polynomial ending numbers_of record-due terms term coefficients signed32
+    taken kept_lines line ended decimal digits
+    start_check fresh_store judged_by list_ok records_ok counts_ok slots_ok slot_ok span_ok went next due visited lent_become head_ok
+    unit_slot in_turn build formula sum_upto sum_to choose weight scale place size places after half_line half_slot looked decided every chosen
+prints_three = refl
 
-pub prints-F : Prints-F
-unfolding report found file-found system-found run-found reads checked polynomials polynomial ending numbers_of record-due terms term coefficients signed32
-    taken kept-lines line ended decimal digits
-    start-check fresh-store judged-by list-ok records-ok counts-ok slots-ok slot_ok span-ok went next due visited lent-become head_ok
-    unit-slot in-turn build formula sum-upto sum_to choose weight scale place size places after half-line half-slot looked decided every chosen
-prints-F = refl
+pub prints_F : PrintsF
+unfolding report found file_found system_found run_found reads checked polynomials polynomial ending numbers_of record-due terms term coefficients signed32
+    taken kept_lines line ended decimal digits
+    start_check fresh_store judged_by list_ok records_ok counts_ok slots_ok slot_ok span_ok went next due visited lent_become head_ok
+    unit_slot in_turn build formula sum_upto sum_to choose weight scale place size places after half_line half_slot looked decided every chosen
+prints_F = refl
 
-pub prints-of-no-bytes : Prints-of-no-bytes
-unfolding report found file-found reads checked record-due line ended decimal digits
-prints-of-no-bytes = refl
+pub prints_of_no_bytes : PrintsOfNoBytes
+unfolding report found file_found reads checked record-due line ended decimal digits
+prints_of_no_bytes = refl

@@ -15,15 +15,15 @@ use Rattle.waiting.specs.declared.state.State.{State}
 use Rattle.waiting.specs.declared.cursor.Kept.{Kept}
 use Rattle.waiting.specs.Cells.{boxed, cells}
 use Rattle.waiting.specs.States.{judged}
-use Rattle.waiting.specs.States.{memory-of, state-of}
-use Rattle.waiting.specs.Steps.{top, visit-of as seen-in}
+use Rattle.waiting.specs.States.{memory_of, state_of}
+use Rattle.waiting.specs.Steps.{top, visit_of as seen-in}
 use Rattle.waiting.specs.Runs.{Way, forget, word_of}
 use Rattle.runs.specs.declared.runs.Answer.{Answer}
 use Rattle.runs.specs.declared.runs.Answer.TheVariants.{Stopped as Ran, Refused as Not-run}
 use Rattle.runs.specs.declared.visits.Answer as Visit
 use Rattle.runs.specs.declared.visits.Answer.TheVariants.{Saw, Stopped as Not-made, Refused as Not-visited}
 use Rattle.runs.specs.Runs.{Run, run_of}
-use Rattle.runs.specs.Visits.{One, visit-of}
+use Rattle.runs.specs.Visits.{One, visit_of}
 use Rattle.claims.specs.Calls.{Memory, called}
 
 -- the list and the store, every place: a record of the list is an entry without its visit number
@@ -33,13 +33,13 @@ pub record Leaves (w : Way ℤ) (f : Memory) : Type 0 where
 
 -- ---- a run: the answer, the list and the store of a stop
 pub record Gives (r : Run) (h : Head) (budget : ℕ) (f : Memory) : Type 0 where
-  pub answer : r.answer ≡ Answer.Stopped (record { word = word_of (called h budget f).answer; state = state-of (called h budget f).state })
+  pub answer : r.answer ≡ Answer.Stopped (record { word = word_of (called h budget f).answer; state = state_of (called h budget f).state })
   pub leaves : Leaves r.end (called h budget f).state
 
 -- for every list of entries that the records are
-abbrev pub Run-is-a-call : Type 0
-Run-is-a-call = (h : Head) (s : State) (budget : ℕ) (list : List (Entry Box)) (st : List ℤ) → judged h s st (map forget list) ≡ Checked.Good
-    → Gives (run_of h s budget (map forget list) st) h budget (memory-of st list s)
+abbrev pub RunIsACall : Type 0
+RunIsACall = (h : Head) (s : State) (budget : ℕ) (list : List (Entry Box)) (st : List ℤ) → judged h s st (map forget list) ≡ Checked.Good
+    → Gives (run_of h s budget (map forget list) st) h budget (memory_of st list s)
 
 -- ---- a visit, by what the rules say before it
 -- "Where nothing waits, or the box would be kept and the list has no room, it answers finished or full and changes nothing"; else the top box is visited, and
@@ -48,13 +48,13 @@ abbrev pub Tells : One → Head → Memory → Turn → Type 0
 Tells r h f nothing = (r.answer ≡ Visit.Answer.Stopped Word.Finished) × Leaves r.end f
 Tells r h f no_room = (r.answer ≡ Visit.Answer.Stopped Word.Full) × Leaves r.end f
 Tells r h f go =
-    let box = top (boxed h) f.store (state-of f) in
+    let box = top (boxed h) f.store (state_of f) in
     let after = (lent (cells h)).visit f in
-    (r.answer ≡ Visit.Answer.Saw (record { state = state-of after; visit = seen-in (boxed h) box (looked h box) })) × Leaves r.end after
+    (r.answer ≡ Visit.Answer.Saw (record { state = state_of after; visit = seen-in (boxed h) box (looked h box) })) × Leaves r.end after
 
-abbrev pub Visit-is-a-visit : Type 0
-Visit-is-a-visit = (h : Head) (s : State) (list : List (Entry Box)) (st : List ℤ) → judged h s st (map forget list) ≡ Checked.Good
-    → Tells (visit-of h s (map forget list) st) h (memory-of st list s) ((lent (cells h)).turn (length list) (memory-of st list s))
+abbrev pub VisitIsAVisit : Type 0
+VisitIsAVisit = (h : Head) (s : State) (list : List (Entry Box)) (st : List ℤ) → judged h s st (map forget list) ≡ Checked.Good
+    → Tells (visit_of h s (map forget list) st) h (memory_of st list s) ((lent (cells h)).turn (length list) (memory_of st list s))
 
 -- what a visit and a run with a budget of one answer, from the state s: the same counts; the same word where no visit is made; the same refusal
 abbrev pub Agree : State → Visit.Answer → Answer → Type 0
@@ -66,20 +66,20 @@ Agree s (Not-made w) (Not-run y) = ⊥
 Agree s (Not-visited x) (Not-run y) = x ≡ y
 
 -- "Its refusals are a run's", and so is everything else that it does
-pub record Same-effects (s : State) (v : One) (r : Run) : Type 0 where
+pub record SameEffects (s : State) (v : One) (r : Run) : Type 0 where
   pub answers : Agree s v.answer r.answer
   pub list : v.end.list ≡ r.end.list
   pub store : v.end.store ≡ r.end.store
 
-abbrev pub Visit-is-a-run : Type 0
-Visit-is-a-run = (h : Head) (s : State) (list : List Kept) (st : List ℤ) → Same-effects s (visit-of h s list st) (run_of h s 1 list st)
+abbrev pub VisitIsARun : Type 0
+VisitIsARun = (h : Head) (s : State) (list : List Kept) (st : List ℤ) → SameEffects s (visit_of h s list st) (run_of h s 1 list st)
 
 -- ---- "All return the number and an offset and change nothing lent"
 pub record Unmoved (w : Way ℤ) (list : List Kept) (st : List ℤ) : Type 0 where
-  pub list-stays : w.list ≡ list
-  pub store-stays : w.store ≡ st
+  pub list_stays : w.list ≡ list
+  pub store_stays : w.store ≡ st
 
-abbrev pub Refusal-changes-nothing : Type 0
-Refusal-changes-nothing = (h : Head) (s : State) (list : List Kept) (st : List ℤ) (x : Refused) → judged h s st list ≡ Checked.Refused x
+abbrev pub RefusalChangesNothing : Type 0
+RefusalChangesNothing = (h : Head) (s : State) (list : List Kept) (st : List ℤ) (x : Refused) → judged h s st list ≡ Checked.Refused x
     → ((budget : ℕ) → ((run_of h s budget list st).answer ≡ Answer.Refused x) × Unmoved (run_of h s budget list st).end list st)
-    × (((visit-of h s list st).answer ≡ Visit.Answer.Refused x) × Unmoved (visit-of h s list st).end list st)
+    × (((visit_of h s list st).answer ≡ Visit.Answer.Refused x) × Unmoved (visit_of h s list st).end list st)

@@ -2,7 +2,7 @@
 -- "One visit" as facts. Demands: the customer's demands, of every call. Caller, Reached: that the calls are the caller's own. Program: that the desk
 -- program prints such a call. Starred: 01's starred examples and its limits.
 -- Meets: that nothing which the demands ask for is empty.
--- Both round trips of a system file stand in writing/specs/Claims: `Written-back` (read and written back) and `Read-back` (written and read).
+-- Both round trips of a system file stand in writing/specs/Claims: `WrittenBack` (read and written back) and `ReadBack` (written and read).
 pub mod Calls
 pub mod Rules
 pub mod Demands

@@ -6,13 +6,13 @@ use Rattle.system.specs.declared.head.Head.{Head}
 use Rattle.system.specs.declared.head.Checked.{Checked}
 use Rattle.system.specs.declared.refusal.Refused.{Refused}
 use Rattle.boxes.specs.declared.visit.Word.{Word}
-use Rattle.boxes.specs.Boxes.{as-box}
+use Rattle.boxes.specs.Boxes.{as_box}
 use Rattle.search.specs.Lists.{Any}
 use Rattle.search.specs.Machine.{Answer, Stop}
 use Rattle.search.specs.Search.{Entry}
 use Rattle.waiting.specs.Fits.{Point, LiesIn, CommonZero}
-use Rattle.waiting.specs.Starts.{start-check}
-use Rattle.waiting.specs.States.{state-of}
+use Rattle.waiting.specs.Starts.{start_check}
+use Rattle.waiting.specs.States.{state_of}
 use Rattle.waiting.specs.declared.cursor.Kept.{Kept}
 use Rattle.waiting.specs.Runs.{forget, remember, word_of}
 use Rattle.runs.specs.Tables.{box_of}
@@ -20,98 +20,98 @@ use Rattle.runs.specs.Lists.{first}
 use Rattle.file.specs.Bytes.{Bytes}
 use Rattle.file.specs.Reading.{reads}
 use Rattle.file.specs.declared.reading.Answer as Read
-use Rattle.desk.specs.Lines.{word, refusal-line, stop-line, kept-lines}
+use Rattle.desk.specs.Lines.{word, refusal_line, stop_line, kept_lines}
 use Rattle.desk.specs.Report.{report}
-use Rattle.claims.specs.Calls.{Memory, fresh, called, boxes-of}
+use Rattle.claims.specs.Calls.{Memory, fresh, called, boxes_of}
 use Rattle.claims.specs.Reached.{Reached}
 
 -- ---- what the program lends: places for coefficients, a waiting store, and "list room 1,024"; what they hold is never read before it is written
-abbrev pub no-coefficients : List ℤ
-no-coefficients = replicate (3 * 64) (pos 0)
+abbrev pub no_coefficients : List ℤ
+no_coefficients = replicate (3 * 64) (pos 0)
 
-abbrev pub empty-store : List ℤ
-empty-store = replicate (31 * 198) (pos 0)
+abbrev pub empty_store : List ℤ
+empty_store = replicate (31 * 198) (pos 0)
 
 abbrev pub free : List (Entry Box)
 free = replicate 1024 (remember (first (replicate 7 0)))
 
 -- its one call: "budget 1,000,000"
-abbrev pub program-call : Head → (coefficients : List ℤ) → Stop Memory
-program-call h cs = called h 1000000 (fresh h cs empty-store free)
+abbrev pub program_call : Head → (coefficients : List ℤ) → Stop Memory
+program_call h cs = called h 1000000 (fresh h cs empty_store free)
 
 -- ---- "or `refused N at OFFSET`": with the number and the offset that reading the file gives
-abbrev pub Prints-refusal : Type 0
-Prints-refusal = (s : List ℕ) (x : Refused) → (reads s no-coefficients).0 ≡ Read.Answer.Refused x → report s ≡ refusal-line x
+abbrev pub PrintsRefusal : Type 0
+PrintsRefusal = (s : List ℕ) (x : Refused) → (reads s no_coefficients).0 ≡ Read.Answer.Refused x → report s ≡ refusal_line x
 
 -- ---- "Prints the answer word, visits, dropped, kept, waiting; then per kept box s1 k1 s2 k2 s3 k3 mark"
 -- of memory as a call left it, with the call's answer: the kept boxes are those that the demands speak of
 abbrev pub lines_of : (h : Head) → Answer → Memory → List ℕ
-lines_of h w f = stop-line (word_of w) f.visits f.dropped f.kept f.waiting ++ kept-lines (map forget (boxes-of h f).kept)
+lines_of h w f = stop_line (word_of w) f.visits f.dropped f.kept f.waiting ++ kept_lines (map forget (boxes_of h f).kept)
 
 -- A file that reads is not refused afterwards. The start accepts it, so every demand holds of the program's call; and that call is what is printed.
 pub record Printed (s : List ℕ) (h : Head) (cs : List ℤ) : Type 0 where
-  pub accepted : start-check h cs empty-store ≡ Checked.Good
-  pub prints : report s ≡ lines_of h (program-call h cs).answer (program-call h cs).state
-  pub reached : let f = (program-call h cs).state in Reached h cs empty-store (state-of f) (map forget f.list) f.store
+  pub accepted : start_check h cs empty_store ≡ Checked.Good
+  pub prints : report s ≡ lines_of h (program_call h cs).answer (program_call h cs).state
+  pub reached : let f = (program_call h cs).state in Reached h cs empty_store (state_of f) (map forget f.list) f.store
 
-abbrev pub Prints-a-run : Type 0
-Prints-a-run = (s : List ℕ) → Bytes s → (h : Head) (cs : List ℤ) → reads s no-coefficients ≡ (Read.Answer.System h, cs) → Printed s h cs
+abbrev pub PrintsARun : Type 0
+PrintsARun = (s : List ℕ) → Bytes s → (h : Head) (cs : List ℤ) → reads s no_coefficients ≡ (Read.Answer.System h, cs) → Printed s h cs
 
 -- ---- "The answer says whether the list is short or whole, and how many boxes wait": what `finished` at the head of the printed bytes means.
 -- The file is a system, 0 boxes wait, as many boxes are printed as are counted, and every common zero of the unit box lies in one of them.
-abbrev pub finished-lines : (visits dropped : ℕ) → List Kept → List ℕ
-finished-lines visits dropped boxes = stop-line Word.Finished visits dropped (length boxes) 0 ++ kept-lines boxes
+abbrev pub finished_lines : (visits dropped : ℕ) → List Kept → List ℕ
+finished_lines visits dropped boxes = stop_line Word.Finished visits dropped (length boxes) 0 ++ kept_lines boxes
 
 pub record Whole (s : List ℕ) : Type 0 where
   pub head : Head
   pub coefficients : List ℤ
-  pub read : reads s no-coefficients ≡ (Read.Answer.System head, coefficients)
+  pub read : reads s no_coefficients ≡ (Read.Answer.System head, coefficients)
   pub visits : ℕ
   pub dropped : ℕ
   pub boxes : List Kept
-  pub prints : report s ≡ finished-lines visits dropped boxes
-  pub whole : (x : Point) → LiesIn head x unit → CommonZero head coefficients x → Any (λ k. LiesIn head x (as-box (box_of k))) boxes
+  pub prints : report s ≡ finished_lines visits dropped boxes
+  pub whole : (x : Point) → LiesIn head x unit → CommonZero head coefficients x → Any (λ k. LiesIn head x (as_box (box_of k))) boxes
 
-abbrev pub Prints-finished : Type 0
-Prints-finished = (s : List ℕ) → Bytes s → (rest : List ℕ) → report s ≡ word Word.Finished ++ rest → Whole s
+abbrev pub PrintsFinished : Type 0
+PrintsFinished = (s : List ℕ) → Bytes s → (rest : List ℕ) → report s ≡ word Word.Finished ++ rest → Whole s
 
 -- ---- F, "the program on E's system, bytes (hex)" 08 00 01 00 .. 00 00 03 00, and the three lines printed
-abbrev pub F-file : List ℕ
-F-file =
+abbrev pub F_file : List ℕ
+F_file =
     8 ∷ 0 ∷ 1 ∷ 0 ∷ 1 ∷ 1 ∷ 1 ∷ 0 ∷ 0 ∷ 2 ∷ 0 ∷ 0
     ∷ 15 ∷ 0 ∷ 2 ∷ 0 ∷ 1 ∷ 0 ∷ 0 ∷ 0 ∷ 255 ∷ 255 ∷ 255 ∷ 255 ∷ 1 ∷ 0 ∷ 0 ∷ 2 ∷ 0 ∷ 0 ∷ 0
     ∷ 0 ∷ 0 ∷ 3 ∷ 0 ∷ []
 
-abbrev pub F-lines : List ℕ
-F-lines =
+abbrev pub F_lines : List ℕ
+F_lines =
     102 ∷ 105 ∷ 110 ∷ 105 ∷ 115 ∷ 104 ∷ 101 ∷ 100 ∷ 32 ∷ 55 ∷ 32 ∷ 50 ∷ 32 ∷ 50 ∷ 32 ∷ 48 ∷ 10
     ∷ 50 ∷ 32 ∷ 49 ∷ 32 ∷ 48 ∷ 32 ∷ 48 ∷ 32 ∷ 48 ∷ 32 ∷ 48 ∷ 32 ∷ 49 ∷ 10
     ∷ 50 ∷ 32 ∷ 50 ∷ 32 ∷ 48 ∷ 32 ∷ 48 ∷ 32 ∷ 48 ∷ 32 ∷ 48 ∷ 32 ∷ 49 ∷ 10 ∷ []
 
-abbrev pub Prints-F : Type 0
-Prints-F = report F-file ≡ F-lines
+abbrev pub PrintsF : Type 0
+PrintsF = report F_file ≡ F_lines
 
 -- ---- 10y - 3 and 20z - 11 in three variables, to the depths 0, 2 and 3: no two of the counts printed are equal, and with F's lines no two places of a box's line
 -- can be exchanged
-abbrev pub three-file : List ℕ
-three-file =
+abbrev pub three_file : List ℕ
+three_file =
     8 ∷ 0 ∷ 1 ∷ 0 ∷ 3 ∷ 2 ∷ 0 ∷ 1 ∷ 1 ∷ 0 ∷ 2 ∷ 3
     ∷ 15 ∷ 0 ∷ 2 ∷ 0 ∷ 1 ∷ 0 ∷ 0 ∷ 0 ∷ 253 ∷ 255 ∷ 255 ∷ 255 ∷ 0 ∷ 1 ∷ 0 ∷ 10 ∷ 0 ∷ 0 ∷ 0
     ∷ 15 ∷ 0 ∷ 2 ∷ 0 ∷ 2 ∷ 0 ∷ 0 ∷ 0 ∷ 245 ∷ 255 ∷ 255 ∷ 255 ∷ 0 ∷ 0 ∷ 1 ∷ 20 ∷ 0 ∷ 0 ∷ 0
     ∷ 0 ∷ 0 ∷ 3 ∷ 0 ∷ []
 
-abbrev pub three-lines : List ℕ
-three-lines =
+abbrev pub three_lines : List ℕ
+three_lines =
     102 ∷ 105 ∷ 110 ∷ 105 ∷ 115 ∷ 104 ∷ 101 ∷ 100 ∷ 32 ∷ 49 ∷ 49 ∷ 32 ∷ 53 ∷ 32 ∷ 49 ∷ 32 ∷ 48 ∷ 10
     ∷ 48 ∷ 32 ∷ 48 ∷ 32 ∷ 50 ∷ 32 ∷ 49 ∷ 32 ∷ 51 ∷ 32 ∷ 52 ∷ 32 ∷ 49 ∷ 10 ∷ []
 
-abbrev pub Prints-three : Type 0
-Prints-three = report three-file ≡ three-lines
+abbrev pub PrintsThree : Type 0
+PrintsThree = report three_file ≡ three_lines
 
 -- ---- "Reads up to 4,096 bytes of standard input": of a longer input the same is printed as if all of it were read
-abbrev pub Prints-of-the-front : Type 0
-Prints-of-the-front = (s : List ℕ) → report (take 4096 s) ≡ report s
+abbrev pub PrintsOfTheFront : Type 0
+PrintsOfTheFront = (s : List ℕ) → report (take 4096 s) ≡ report s
 
 -- ---- "An empty file: 1 at 0"
-abbrev pub Prints-of-no-bytes : Type 0
-Prints-of-no-bytes = report [] ≡ (114 ∷ 101 ∷ 102 ∷ 117 ∷ 115 ∷ 101 ∷ 100 ∷ 32 ∷ 49 ∷ 32 ∷ 97 ∷ 116 ∷ 32 ∷ 48 ∷ 10 ∷ [])
+abbrev pub PrintsOfNoBytes : Type 0
+PrintsOfNoBytes = report [] ≡ (114 ∷ 101 ∷ 102 ∷ 117 ∷ 115 ∷ 101 ∷ 100 ∷ 32 ∷ 49 ∷ 32 ∷ 97 ∷ 116 ∷ 32 ∷ 48 ∷ 10 ∷ [])

@@ -8,21 +8,21 @@ use Rattle.system.specs.declared.head.Checked.{Checked}
 use Rattle.boxes.specs.declared.visit.Word.{Word}
 use Rattle.system.specs.declared.refusal.Refusal.{Refusal}
 use Rattle.system.specs.Heads.{checked}
-use Rattle.system.specs.Refusals.{number, at-start}
-use Rattle.slots.specs.Slots.{start-numbers, half-numbers}
-use Rattle.slots.specs.Rules.{can-cut}
+use Rattle.system.specs.Refusals.{number, at_start}
+use Rattle.slots.specs.Slots.{start_numbers, half_numbers}
+use Rattle.slots.specs.Rules.{can_cut}
 use Rattle.search.specs.Lists.{All}
 use Rattle.waiting.specs.declared.state.State.{State}
 use Rattle.waiting.specs.declared.start.Started.{Started}
 use Rattle.waiting.specs.States.{needed, judged}
-use Rattle.waiting.specs.Starts.{start-check, start-answer, start-store, fresh-state}
-use Rattle.waiting.specs.Steps.{nothing-kept}
+use Rattle.waiting.specs.Starts.{start_check, start_answer, start_store, fresh_state}
+use Rattle.waiting.specs.Steps.{nothing_kept}
 use Rattle.runs.specs.declared.runs.Answer.{Answer}
 use Rattle.runs.specs.Runs.{run_of}
 use Rattle.file.specs.Reading.{reads}
 use Rattle.file.specs.declared.reading.Answer as Read
-use Rattle.desk.specs.Lines.{stop-line}
-use Rattle.claims.specs.Program.{F-file}
+use Rattle.desk.specs.Lines.{stop_line}
+use Rattle.claims.specs.Program.{F_file}
 
 -- one polynomial in one variable
 abbrev pub one : (degree depth : ℕ) → Head
@@ -48,22 +48,22 @@ pub data Case : Type 0 where
   tells : Word → (visits dropped kept waiting : ℕ) → (line : List ℕ) → Case
 
 abbrev pub Right : Case → Type 0
-Right (starts h cs xs) = (checked h ≡ Checked.Good) × (start-numbers h cs ≡ xs)
-Right (halves h e r xs ys) = half-numbers h e r xs ≡ ys
+Right (starts h cs xs) = (checked h ≡ Checked.Good) × (start_numbers h cs ≡ xs)
+Right (halves h e r xs ys) = half_numbers h e r xs ≡ ys
 Right (stops h cs budget room word visits dropped kept waiting) =
     let st = replicate (needed h) (pos 0) in
-    let tested = start-check h cs st in
-    (start-answer tested ≡ Started.Begun fresh-state)
-    × ((run_of h fresh-state budget (replicate room nothing-kept) (start-store h cs st tested)).answer
+    let tested = start_check h cs st in
+    (start_answer tested ≡ Started.Begun fresh_state)
+    × ((run_of h fresh_state budget (replicate room nothing_kept) (start_store h cs st tested)).answer
     ≡ Answer.Stopped (record { word = word; state = record { waiting = waiting; kept = kept; visits = visits; dropped = dropped } }))
-Right (accepts h c v) = start-check h (replicate (3 * 64) c) (replicate (31 * 198) (pos 0)) ≡ v
+Right (accepts h c v) = start_check h (replicate (3 * 64) c) (replicate (31 * 198) (pos 0)) ≡ v
 Right (allows x visits v) =
     let s : State = record { waiting = 1; kept = 0; visits = visits; dropped = 0 } in
     judged (one 0 0) s (replicate 6 (pos 0) ++ (x ∷ [])) [] ≡ v
-Right (cuts n x b) = can-cut (one n 1) first (replicate (7 + n) x) ≡ b
+Right (cuts n x b) = can_cut (one n 1) first (replicate (7 + n) x) ≡ b
 Right (numbered w n) = number w ≡ n
 Right (refuses s w offset) = (reads s []).0 ≡ Read.Answer.Refused (record { why = w; at = offset })
-Right (tells w visits dropped kept waiting line) = stop-line w visits dropped kept waiting ≡ line
+Right (tells w visits dropped kept waiting line) = stop_line w visits dropped kept waiting ≡ line
 
 -- and in two
 abbrev two : Head
@@ -83,7 +83,7 @@ abbrev of : (l m : ℕ) (n g : Three ℕ) → Head
 of l m n g = record { l = l; m = m; n1 = n.x₁; n2 = n.x₂; n3 = n.x₃; g1 = g.x₁; g2 = g.x₂; g3 = g.x₃ }
 
 abbrev no : Refusal → Checked
-no w = Checked.Refused (at-start w)
+no w = Checked.Refused (at_start w)
 
 -- 2x - 1
 abbrev pub e : List ℤ
@@ -150,17 +150,17 @@ refusals =
     ∷ numbered Refusal.TooShort 9
     ∷ numbered Refusal.OutsideRules 10
     ∷ refuses [] Refusal.Ended 0
-    ∷ refuses (take 30 F-file) Refusal.Ended 12
-    ∷ refuses (take 31 F-file) Refusal.Ended 31
-    ∷ refuses (set F-file 14 3) Refusal.NotDue 12
-    ∷ refuses (set F-file 16 2) Refusal.NotDue 12
-    ∷ refuses (set F-file 12 16) Refusal.WrongLength 12
-    ∷ refuses (set F-file 4 4) Refusal.OutOfLimits 0
-    ∷ refuses (set F-file 24 2) Refusal.ExponentTooHigh 24
-    ∷ refuses (set F-file 27 0) Refusal.BadCoefficient 24
-    ∷ refuses (set F-file 24 0) Refusal.NotRising 24
-    ∷ refuses (F-file ++ (0 ∷ [])) Refusal.ExtraBytes 35
-    ∷ refuses F-file Refusal.TooShort 0
+    ∷ refuses (take 30 F_file) Refusal.Ended 12
+    ∷ refuses (take 31 F_file) Refusal.Ended 31
+    ∷ refuses (set F_file 14 3) Refusal.NotDue 12
+    ∷ refuses (set F_file 16 2) Refusal.NotDue 12
+    ∷ refuses (set F_file 12 16) Refusal.WrongLength 12
+    ∷ refuses (set F_file 4 4) Refusal.OutOfLimits 0
+    ∷ refuses (set F_file 24 2) Refusal.ExponentTooHigh 24
+    ∷ refuses (set F_file 27 0) Refusal.BadCoefficient 24
+    ∷ refuses (set F_file 24 0) Refusal.NotRising 24
+    ∷ refuses (F_file ++ (0 ∷ [])) Refusal.ExtraBytes 35
+    ∷ refuses F_file Refusal.TooShort 0
     ∷ []
 
 -- spent 8 2 1 3, and full 8 2 1 3
@@ -173,5 +173,5 @@ told =
 abbrev pub starred : List Case
 starred = examples ++ (limits ++ (refusals ++ told))
 
-abbrev pub Starred-right : Type 0
-Starred-right = All Right starred
+abbrev pub StarredRight : Type 0
+StarredRight = All Right starred

@@ -12,7 +12,7 @@ use Rattle.system.specs.declared.head.Checked.{Checked}
 use Rattle.boxes.specs.declared.visit.Sign.{Sign}
 use Rattle.boxes.specs.declared.visit.Outcome.{Outcome}
 use Rattle.boxes.specs.declared.visit.Word.{Word}
-use Rattle.boxes.specs.Boxes.{as-box}
+use Rattle.boxes.specs.Boxes.{as_box}
 use Rattle.system.specs.Heads.{width}
 use Rattle.slots.specs.Slots.{box_in}
 use Rattle.search.specs.Lists.{All, Any}
@@ -20,47 +20,47 @@ use Rattle.search.specs.Lent.{stack}
 use Rattle.waiting.specs.declared.state.State.{State}
 use Rattle.waiting.specs.declared.cursor.Kept.{Kept}
 use Rattle.waiting.specs.Fits.{InsideBox}
-use Rattle.waiting.specs.Starts.{start-check, start-store, fresh-state}
+use Rattle.waiting.specs.Starts.{start_check, start_store, fresh_state}
 use Rattle.runs.specs.declared.runs.Stop.{Stop}
 use Rattle.runs.specs.declared.runs.Answer as Ran
 use Rattle.runs.specs.declared.visits.Seen.{Seen}
 use Rattle.runs.specs.declared.visits.Answer as Visit
 use Rattle.runs.specs.Runs.{Run, run_of}
-use Rattle.runs.specs.Visits.{visit-of}
+use Rattle.runs.specs.Visits.{visit_of}
 use Rattle.runs.specs.Tables.{box_of}
 use Rattle.claims.specs.Demands.{OneSign}
 use Rattle.claims.specs.Reached.{Reached}
 
 -- `start` on the store st, then one call of `run`
 abbrev pub first_run : Head → (coefficients store : List ℤ) → (budget : ℕ) → List Kept → Run
-first_run h cs st budget list = run_of h fresh-state budget list (start-store h cs st (start-check h cs st))
+first_run h cs st budget list = run_of h fresh_state budget list (start_store h cs st (start_check h cs st))
 
 -- "it then ends in the state that one fresh call reaches with all the visits made and the last list": the counts, the whole store and every kept record. (The
 -- word may be another.)
-pub record Ends-so (r : Run) (s : State) (list : List Kept) (store : List ℤ) : Type 0 where
+pub record EndsSo (r : Run) (s : State) (list : List Kept) (store : List ℤ) : Type 0 where
   pub word : Word
   pub answer : r.answer ≡ Ran.Answer.Stopped (record { word = word; state = s })
   pub store_is : r.end.store ≡ store
-  pub kept-are : take s.kept r.end.list ≡ take s.kept list
+  pub kept_are : take s.kept r.end.list ≡ take s.kept list
 
-abbrev pub Reached-continued : Type 0
-Reached-continued = (h : Head) (cs st : List ℤ) (s : State) (list : List Kept) (store : List ℤ) → Reached h cs st s list store
-    → (list' : List Kept) → length list' ≡ length list → Ends-so (first_run h cs st s.visits list') s list store
+abbrev pub ReachedContinued : Type 0
+ReachedContinued = (h : Head) (cs st : List ℤ) (s : State) (list : List Kept) (store : List ℤ) → Reached h cs st s list store
+    → (list' : List Kept) → length list' ≡ length list → EndsSo (first_run h cs st s.visits list') s list store
 
 -- the box lies inside a waiting slot's box, or inside the box of one of the first `kept` records
 abbrev pub LiesAmong : Head → Box → State → List Kept → (store : List ℤ) → Type 0
 LiesAmong h b s list store =
-    Any (λ l. InsideBox h b (box_in l)) (stack (width h) s.waiting store) ⊎ Any (λ k. InsideBox h b (as-box (box_of k))) (take s.kept list)
+    Any (λ l. InsideBox h b (box_in l)) (stack (width h) s.waiting store) ⊎ Any (λ k. InsideBox h b (as_box (box_of k))) (take s.kept list)
 
 -- "begins its kept list with the other's whole list, and each of its kept or waiting boxes lies inside a kept or waiting box of the other"
 pub record GoesOn (h : Head) (s : State) (list : List Kept) (store : List ℤ) (s' : State) (list' : List Kept) (store' : List ℤ) : Type 0 where
   pub more : s.kept ≤ s'.kept
   pub begins : take s.kept list' ≡ take s.kept list
-  pub waiting-in : All (λ l. LiesAmong h (box_in l) s list store) (stack (width h) s'.waiting store')
-  pub kept_in : All (λ k. LiesAmong h (as-box (box_of k)) s list store) (take s'.kept list')
+  pub waiting_in : All (λ l. LiesAmong h (box_in l) s list store) (stack (width h) s'.waiting store')
+  pub kept_in : All (λ k. LiesAmong h (as_box (box_of k)) s list store) (take s'.kept list')
 
-abbrev pub Runs-go-on : Type 0
-Runs-go-on = (h : Head) (cs st st' : List ℤ) → start-check h cs st ≡ Checked.Good → start-check h cs st' ≡ Checked.Good
+abbrev pub RunsGoOn : Type 0
+RunsGoOn = (h : Head) (cs st st' : List ℤ) → start_check h cs st ≡ Checked.Good → start_check h cs st' ≡ Checked.Good
     → (budget budget' : ℕ) (list list' : List Kept) → budget ≤ budget' → length list ≤ length list'
     → (r r' : Stop) → (first_run h cs st budget list).answer ≡ Ran.Answer.Stopped r → (first_run h cs st' budget' list').answer ≡ Ran.Answer.Stopped r'
     → let e = (first_run h cs st budget list).end in
@@ -68,7 +68,7 @@ Runs-go-on = (h : Head) (cs st st' : List ℤ) → start-check h cs st ≡ Check
     GoesOn h r.state e.list e.store r'.state e'.list e'.store
 
 -- "each dropped box has one polynomial with the same strict sign at all its rational points": those that the visit tells
-abbrev pub Visit-tells-sign : Type 0
-Visit-tells-sign = (h : Head) (cs st : List ℤ) (s : State) (list : List Kept) (store : List ℤ) → Reached h cs st s list store
-    → (v : Seen) → (visit-of h s list store).answer ≡ Visit.Answer.Saw v → (p : ℕ) (g : Sign) → v.visit.what ≡ Outcome.Dropped p g
-    → OneSign h cs (as-box v.visit.at) p g
+abbrev pub VisitTellsSign : Type 0
+VisitTellsSign = (h : Head) (cs st : List ℤ) (s : State) (list : List Kept) (store : List ℤ) → Reached h cs st s list store
+    → (v : Seen) → (visit_of h s list store).answer ≡ Visit.Answer.Saw v → (p : ℕ) (g : Sign) → v.visit.what ≡ Outcome.Dropped p g
+    → OneSign h cs (as_box v.visit.at) p g

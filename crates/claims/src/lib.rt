@@ -1,1 +1,2 @@
 // The customer's demands, stated in specs/ and proved in proofs/. There is no code here.
+#![tactic(auto)]

@@ -10,21 +10,21 @@ use borrow.Author.Tests.{lt-ltb, le-ltb, ltb-true, ltb-false}
 use lib.Dec.{ltb}
 use lib.ListN.{length, get_or, set, length-append, get_or-append}
 use Rattle.file.specs.Bytes.{over}
-use Rattle.file.proofs.Putting.{put1, over-over, over-length}
-use Rattle.desk.specs.Text.{digit, digits, decimal, value, Says-back, Only-digits, No-leading-zero, As-few}
+use Rattle.file.proofs.Putting.{put1, over_over, over_length}
+use Rattle.desk.specs.Text.{digit, digits, decimal, value, SaysBack, OnlyDigits, NoLeadingZero, AsFew}
 
-one-or-more : (n : ℕ) → (n < 10) ⊎ (10 ≤ n)
-one-or-more n = from (ltb n 10) refl
+one_or_more : (n : ℕ) → (n < 10) ⊎ (10 ≤ n)
+one_or_more n = from (ltb n 10) refl
   where
     from : (b : Bool) → ltb n 10 ≡ b → (n < 10) ⊎ (10 ≤ n)
     from true e = inl (ltb-true n 10 e)
     from false e = inr (ltb-false n 10 e)
 
 -- one digit
-digits-one : (more n : ℕ) → n < 10 → digits more n ≡ digit n
+digits_one : (more n : ℕ) → n < 10 → digits more n ≡ digit n
 unfolding digits
-digits-one zero n h = refl
-digits-one (suc more) n h = rw (lt-ltb n 10 h, digits) refl
+digits_one zero n h = refl
+digits_one (suc more) n h = rw (lt-ltb n 10 h, digits) refl
 
 digits_more : (more n : ℕ) → 10 ≤ n → digits (suc more) n ≡ digits more (n / 10) ++ digit (n % 10)
 unfolding digits
@@ -32,127 +32,127 @@ digits_more more n h = rw (le-ltb n 10 h, digits) refl
 
 -- room for more digits than there are changes nothing
 digits_same : (f g n : ℕ) → n ≤ f → n ≤ g → digits f n ≡ digits g n
-digits_same zero g n p q = let h : n < 10 = omega arith in digits-one zero n h ∙ sym (digits-one g n h)
-digits_same (suc f) zero n p q = let h : n < 10 = omega arith in digits-one (suc f) n h ∙ sym (digits-one zero n h)
+digits_same zero g n p q = let h : n < 10 = omega arith in digits_one zero n h ∙ sym (digits_one g n h)
+digits_same (suc f) zero n p q = let h : n < 10 = omega arith in digits_one (suc f) n h ∙ sym (digits_one zero n h)
 digits_same (suc f) (suc g) n p q =
-    ⊎_elim (λ (h : n < 10). digits-one (suc f) n h ∙ sym (digits-one (suc g) n h))
+    ⊎_elim (λ (h : n < 10). digits_one (suc f) n h ∙ sym (digits_one (suc g) n h))
     (λ (h : 10 ≤ n). digits_more f n h ∙ ap (λ (ds : List ℕ). ds ++ digit (n % 10)) (digits_same f g (n / 10) (omega arith) (omega arith)) ∙ sym (digits_more g n h))
-    (one-or-more n)
+    (one_or_more n)
 
-pub decimal-one : (n : ℕ) → n < 10 → decimal n ≡ digit n
+pub decimal_one : (n : ℕ) → n < 10 → decimal n ≡ digit n
 unfolding decimal
-decimal-one n h = digits-one n n h
+decimal_one n h = digits_one n n h
 
-pub decimal-more : (n : ℕ) → 10 ≤ n → decimal n ≡ decimal (n / 10) ++ digit (n % 10)
+pub decimal_more : (n : ℕ) → 10 ≤ n → decimal n ≡ decimal (n / 10) ++ digit (n % 10)
 unfolding decimal
-decimal-more zero h = absurd (omega arith)
-decimal-more (suc k) h =
+decimal_more zero h = absurd (omega arith)
+decimal_more (suc k) h =
     digits_more k (suc k) h
     ∙ ap (λ (ds : List ℕ). ds ++ digit (suc k % 10)) (digits_same k (suc k / 10) (suc k / 10) (omega arith) (omega arith))
 
-pub decimal-length : (n : ℕ) → 10 ≤ n → length (decimal n) ≡ length (decimal (n / 10)) + 1
-decimal-length n h = ap length (decimal-more n h) ∙ length-append (decimal (n / 10)) (digit (n % 10))
+pub decimal_length : (n : ℕ) → 10 ≤ n → length (decimal n) ≡ length (decimal (n / 10)) + 1
+decimal_length n h = ap length (decimal_more n h) ∙ length-append (decimal (n / 10)) (digit (n % 10))
 
 -- a number below 10^(k+1) has at most k + 1 digits
-pub as-few : As-few
-as-few zero n h = let e : length (decimal n) ≡ 1 = ap length (decimal-one n (omega arith)) in omega arith
-as-few (suc k) n h =
-    ⊎_elim (λ (s : n < 10). let e : length (decimal n) ≡ 1 = ap length (decimal-one n s) in omega arith)
-    (λ (m : 10 ≤ n). let i : length (decimal (n / 10)) ≤ suc k = as-few k (n / 10) (omega (arith, pow-suc 10 (suc k))) in omega (arith, decimal-length n m))
-    (one-or-more n)
+pub as_few : AsFew
+as_few zero n h = let e : length (decimal n) ≡ 1 = ap length (decimal_one n (omega arith)) in omega arith
+as_few (suc k) n h =
+    ⊎_elim (λ (s : n < 10). let e : length (decimal n) ≡ 1 = ap length (decimal_one n s) in omega arith)
+    (λ (m : 10 ≤ n). let i : length (decimal (n / 10)) ≤ suc k = as_few k (n / 10) (omega (arith, pow-suc 10 (suc k))) in omega (arith, decimal_length n m))
+    (one_or_more n)
 
 -- ---- read back
-value-last : (v : ℕ) (ds : List ℕ) (d : ℕ) → value v (ds ++ (d ∷ [])) ≡ 10 * value v ds + (d - 48)
+value_last : (v : ℕ) (ds : List ℕ) (d : ℕ) → value v (ds ++ (d ∷ [])) ≡ 10 * value v ds + (d - 48)
 unfolding value
-value-last v [] d = refl
-value-last v (e ∷ ds) d = value-last (10 * v + (e - 48)) ds d
+value_last v [] d = refl
+value_last v (e ∷ ds) d = value_last (10 * v + (e - 48)) ds d
 
-value-one : (n : ℕ) → value 0 (digit n) ≡ n
+value_one : (n : ℕ) → value 0 (digit n) ≡ n
 unfolding value
-value-one n = omega arith
+value_one n = omega arith
 
-value-decimal : (f n : ℕ) → n ≤ f → value 0 (decimal n) ≡ n
-value-decimal zero n p = ap (value 0) (decimal-one n (omega arith)) ∙ value-one n
-value-decimal (suc f) n p =
-    ⊎_elim (λ (h : n < 10). ap (value 0) (decimal-one n h) ∙ value-one n)
+value_decimal : (f n : ℕ) → n ≤ f → value 0 (decimal n) ≡ n
+value_decimal zero n p = ap (value 0) (decimal_one n (omega arith)) ∙ value_one n
+value_decimal (suc f) n p =
+    ⊎_elim (λ (h : n < 10). ap (value 0) (decimal_one n h) ∙ value_one n)
     (λ (h : 10 ≤ n).
-    let r : value 0 (decimal (n / 10)) ≡ n / 10 = value-decimal f (n / 10) (omega arith) in
-    ap (value 0) (decimal-more n h) ∙ value-last 0 (decimal (n / 10)) (48 + n % 10) ∙ omega arith)
-    (one-or-more n)
+    let r : value 0 (decimal (n / 10)) ≡ n / 10 = value_decimal f (n / 10) (omega arith) in
+    ap (value 0) (decimal_more n h) ∙ value_last 0 (decimal (n / 10)) (48 + n % 10) ∙ omega arith)
+    (one_or_more n)
 
-pub says_back : Says-back
-says_back n = value-decimal n n (omega arith)
+pub says_back : SaysBack
+says_back n = value_decimal n n (omega arith)
 
 -- ---- each is a digit
-abbrev Is-digit : ℕ → Type 0
-Is-digit d = (48 ≤ d) × (d ≤ 57)
+abbrev IsDigit : ℕ → Type 0
+IsDigit d = (48 ≤ d) × (d ≤ 57)
 
 pub record Digits (ds : List ℕ) : Type 0 where
-  pub each : (i : ℕ) → i < length ds → Is-digit (get_or ds i 0)
+  pub each : (i : ℕ) → i < length ds → IsDigit (get_or ds i 0)
 
-one-digit : (d : ℕ) → d < 10 → Digits (digit d)
-one-digit d h = record { each = at }
+one_digit : (d : ℕ) → d < 10 → Digits (digit d)
+one_digit d h = record { each = at }
   where
-    at : (i : ℕ) → i < 1 → Is-digit (get_or (digit d) i 0)
+    at : (i : ℕ) → i < 1 → IsDigit (get_or (digit d) i 0)
     at zero l = (omega arith, omega arith)
     at (suc i) l = absurd (omega arith)
 
 behind : (ds : List ℕ) (d : ℕ) → d < 10 → Digits ds → Digits (ds ++ digit d)
-behind [] d h g = one-digit d h
+behind [] d h g = one_digit d h
 behind (e ∷ ds) d h g = record { each = at (behind ds d h (record { each = λ k b. g.each (suc k) (omega arith) })) }
   where
-    at : Digits (ds ++ digit d) → (i : ℕ) → i < length (e ∷ (ds ++ digit d)) → Is-digit (get_or (e ∷ (ds ++ digit d)) i 0)
+    at : Digits (ds ++ digit d) → (i : ℕ) → i < length (e ∷ (ds ++ digit d)) → IsDigit (get_or (e ∷ (ds ++ digit d)) i 0)
     at w zero l = g.each 0 (omega arith)
     at w (suc i) l = w.each i (omega arith)
 
-decimal-digits : (f n : ℕ) → n ≤ f → Digits (decimal n)
-decimal-digits zero n p = subst Digits (sym (decimal-one n (omega arith))) (one-digit n (omega arith))
-decimal-digits (suc f) n p =
-    ⊎_elim (λ (h : n < 10). subst Digits (sym (decimal-one n h)) (one-digit n h))
-    (λ (h : 10 ≤ n). subst Digits (sym (decimal-more n h)) (behind (decimal (n / 10)) (n % 10) (omega arith) (decimal-digits f (n / 10) (omega arith))))
-    (one-or-more n)
+decimal_digits : (f n : ℕ) → n ≤ f → Digits (decimal n)
+decimal_digits zero n p = subst Digits (sym (decimal_one n (omega arith))) (one_digit n (omega arith))
+decimal_digits (suc f) n p =
+    ⊎_elim (λ (h : n < 10). subst Digits (sym (decimal_one n h)) (one_digit n h))
+    (λ (h : 10 ≤ n). subst Digits (sym (decimal_more n h)) (behind (decimal (n / 10)) (n % 10) (omega arith) (decimal_digits f (n / 10) (omega arith))))
+    (one_or_more n)
 
-pub only-digits : Only-digits
-only-digits n i l = (decimal-digits n n (omega arith)).each i l
+pub only_digits : OnlyDigits
+only_digits n i l = (decimal_digits n n (omega arith)).each i l
 
 -- ---- the first
-some-digit : (n : ℕ) → 0 < length (decimal n)
-some-digit n =
-    ⊎_elim (λ (h : n < 10). let e : length (decimal n) ≡ 1 = ap length (decimal-one n h) in omega arith)
-    (λ (h : 10 ≤ n). omega (arith, decimal-length n h))
-    (one-or-more n)
+some_digit : (n : ℕ) → 0 < length (decimal n)
+some_digit n =
+    ⊎_elim (λ (h : n < 10). let e : length (decimal n) ≡ 1 = ap length (decimal_one n h) in omega arith)
+    (λ (h : 10 ≤ n). omega (arith, decimal_length n h))
+    (one_or_more n)
 
-first-digit : (f n : ℕ) → n ≤ f → 0 < n → 48 < get_or (decimal n) 0 0
-first-digit zero n p q = absurd (omega arith)
-first-digit (suc f) n p q =
-    ⊎_elim (λ (h : n < 10). let e : get_or (decimal n) 0 0 ≡ 48 + n = ap (λ (ds : List ℕ). get_or ds 0 0) (decimal-one n h) in omega arith)
+first_digit : (f n : ℕ) → n ≤ f → 0 < n → 48 < get_or (decimal n) 0 0
+first_digit zero n p q = absurd (omega arith)
+first_digit (suc f) n p q =
+    ⊎_elim (λ (h : n < 10). let e : get_or (decimal n) 0 0 ≡ 48 + n = ap (λ (ds : List ℕ). get_or ds 0 0) (decimal_one n h) in omega arith)
     (λ (h : 10 ≤ n).
     let e : get_or (decimal n) 0 0 ≡ get_or (decimal (n / 10)) 0 0
-    = ap (λ (ds : List ℕ). get_or ds 0 0) (decimal-more n h) ∙ get_or-append (decimal (n / 10)) (digit (n % 10)) 0 0 (some-digit (n / 10)) in
-    omega (arith, e, first-digit f (n / 10) (omega arith) (omega arith)))
-    (one-or-more n)
+    = ap (λ (ds : List ℕ). get_or ds 0 0) (decimal_more n h) ∙ get_or-append (decimal (n / 10)) (digit (n % 10)) 0 0 (some_digit (n / 10)) in
+    omega (arith, e, first_digit f (n / 10) (omega arith) (omega arith)))
+    (one_or_more n)
 
-pub no-leading-zero : No-leading-zero
-no-leading-zero n h = first-digit n n (omega arith) h
+pub no_leading_zero : NoLeadingZero
+no_leading_zero n h = first_digit n n (omega arith) h
 
 -- ---- put into a target
 module _ (t : List ℕ) (at n : ℕ) (fit : at + length (decimal n) ≤ length t) where
-  pub one-put : n < 10 → (at + 1 ≡ at + length (decimal n)) × (set t at (48 + n) ≡ over t at (decimal n))
-  one-put h = let e : decimal n ≡ digit n = decimal-one n h in
+  pub one_put : n < 10 → (at + 1 ≡ at + length (decimal n)) × (set t at (48 + n) ≡ over t at (decimal n))
+  one_put h = let e : decimal n ≡ digit n = decimal_one n h in
       let l : length (decimal n) ≡ 1 = ap length e in
       (omega arith, put1 t at (48 + n) (omega arith) ∙ ap (over t at) (sym e))
 
   module _ (h : 10 ≤ n) (o : ℕ) (t' : List ℕ) (eo : o ≡ at + length (decimal (n / 10))) (et : t' ≡ over t at (decimal (n / 10))) where
     same : length t' ≡ length t
-    same = ap length et ∙ over-length t at (decimal (n / 10)) (omega (arith, decimal-length n h))
+    same = ap length et ∙ over_length t at (decimal (n / 10)) (omega (arith, decimal_length n h))
 
     pub last_fits : o < length t'
-    last_fits = omega (arith, same, decimal-length n h)
+    last_fits = omega (arith, same, decimal_length n h)
 
-    pub last-put : (o + 1 ≡ at + length (decimal n)) × (set t' o (48 + n % 10) ≡ over t at (decimal n))
-    last-put = (
-      omega (arith, decimal-length n h),
+    pub last_put : (o + 1 ≡ at + length (decimal n)) × (set t' o (48 + n % 10) ≡ over t at (decimal n))
+    last_put = (
+      omega (arith, decimal_length n h),
       put1 t' o (48 + n % 10) (omega (arith, last_fits))
-          ∙ rw (et, eo) (over-over t at (decimal (n / 10)) (digit (n % 10)) (omega (arith, decimal-length n h)))
-          ∙ ap (over t at) (sym (decimal-more n h)),
+          ∙ rw (et, eo) (over_over t at (decimal (n / 10)) (digit (n % 10)) (omega (arith, decimal_length n h)))
+          ∙ ap (over t at) (sym (decimal_more n h)),
     )

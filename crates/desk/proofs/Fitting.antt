@@ -7,10 +7,10 @@ use lib.ListN.{length, drop}
 use Rattle.file.specs.Bytes.{over}
 use Rattle.runs.specs.declared.runs.Answer.{Answer}
 use Rattle.runs.specs.declared.runs.Answer.TheVariants.{Stopped, Refused}
-use Rattle.desk.specs.Lines.{lines-told}
+use Rattle.desk.specs.Lines.{lines_told}
 
 -- of a list of n numbers, in a text of t bytes
-pub any_fit : (a : Answer) (n t : ℕ) → n ≡ 7168 → t ≡ 43101 → 93 + 42 * lines-told a n ≤ t
+pub any_fit : (a : Answer) (n t : ℕ) → n ≡ 7168 → t ≡ 43101 → 93 + 42 * lines_told a n ≤ t
 any_fit (Stopped s) n t en et = omega (arith, en, et)
 any_fit (Refused x) n t en et = omega (arith, et)
 

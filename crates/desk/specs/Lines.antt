@@ -24,31 +24,31 @@ abbrev pub at : List ℕ
 at = 97 ∷ 116 ∷ []
 
 -- ---- the lines: `refused N at OFFSET`
-abbrev pub refused-line : (n offset : ℕ) → List ℕ
-refused-line n offset = line (refused ∷ decimal n ∷ at ∷ decimal offset ∷ [])
+abbrev pub refused_line : (n offset : ℕ) → List ℕ
+refused_line n offset = line (refused ∷ decimal n ∷ at ∷ decimal offset ∷ [])
 
-abbrev pub refusal-line : Refused → List ℕ
-refusal-line x = refused-line (number x.why) x.at
+abbrev pub refusal_line : Refused → List ℕ
+refusal_line x = refused_line (number x.why) x.at
 
 -- "the answer word, visits, dropped, kept, waiting"
-abbrev pub stop-line : Word → (visits dropped kept waiting : ℕ) → List ℕ
-stop-line w visits dropped kept waiting = line (word w ∷ map decimal (visits ∷ dropped ∷ kept ∷ waiting ∷ []))
+abbrev pub stop_line : Word → (visits dropped kept waiting : ℕ) → List ℕ
+stop_line w visits dropped kept waiting = line (word w ∷ map decimal (visits ∷ dropped ∷ kept ∷ waiting ∷ []))
 
 -- "s1 k1 s2 k2 s3 k3 mark"
 abbrev pub kept_line : Kept → List ℕ
 kept_line k = line (map decimal (seven k))
 
-unfoldable pub kept-lines : List Kept → List ℕ
-kept-lines [] = []
-kept-lines (k ∷ ks) = kept_line k ++ kept-lines ks
+unfoldable pub kept_lines : List Kept → List ℕ
+kept_lines [] = []
+kept_lines (k ∷ ks) = kept_line k ++ kept_lines ks
 
 -- ---- what is printed of a run's answer, where the list holds these records
 abbrev pub told : Answer → List Kept → List ℕ
 told (Stopped s) list =
-    stop-line s.word s.state.visits s.state.dropped s.state.kept s.state.waiting ++ kept-lines (take s.state.kept list)
-told (Not-run x) list = refusal-line x
+    stop_line s.word s.state.visits s.state.dropped s.state.kept s.state.waiting ++ kept_lines (take s.state.kept list)
+told (Not-run x) list = refusal_line x
 
 -- how many kept boxes that tells, where the list has so many numbers
-abbrev pub lines-told : Answer → (numbers : ℕ) → ℕ
-lines-told (Stopped s) n = min s.state.kept (n / 7)
-lines-told (Not-run x) n = 0
+abbrev pub lines_told : Answer → (numbers : ℕ) → ℕ
+lines_told (Stopped s) n = min s.state.kept (n / 7)
+lines_told (Not-run x) n = 0

@@ -7,7 +7,7 @@ use Rattle.system.specs.Heads.{places, Limits}
 use Rattle.file.specs.Reading.{reads}
 use Rattle.file.specs.declared.reading.Answer.{Answer}
 use Rattle.file.specs.declared.reading.Answer.TheVariants.{System, Refused as Not-read}
-use Rattle.waiting.specs.Starts.{start-check, start-answer, start-store}
+use Rattle.waiting.specs.Starts.{start_check, start_answer, start_store}
 use Rattle.waiting.specs.States.{needed}
 use Rattle.waiting.specs.declared.start.Started.{Started}
 use Rattle.waiting.specs.declared.start.Started.TheVariants.{Begun, Refused as Not-begun}
@@ -29,33 +29,33 @@ abbrev pub refused : Refused → (list : List ℕ) → Found
 refused x list = record { answer = Not-run x; kept = listed list }
 
 -- ---- from a state, with what stands in the store
-unfoldable pub run-found : (budget : ℕ) → Head → State → (store : List ℤ) (list : List ℕ) → Found
-run-found b h s st list = record { answer = (run_of h s b (listed list) st).answer; kept = (run_of h s b (listed list) st).end.list }
+unfoldable pub run_found : (budget : ℕ) → Head → State → (store : List ℤ) (list : List ℕ) → Found
+run_found b h s st list = record { answer = (run_of h s b (listed list) st).answer; kept = (run_of h s b (listed list) st).end.list }
 
 -- ---- from a start
-abbrev pub started-found : (budget : ℕ) → Head → Started → (store : List ℤ) (list : List ℕ) → Found
-started-found b h (Begun s) st list = run-found b h s st list
-started-found b h (Not-begun x) st list = refused x list
+abbrev pub started_found : (budget : ℕ) → Head → Started → (store : List ℤ) (list : List ℕ) → Found
+started_found b h (Begun s) st list = run_found b h s st list
+started_found b h (Not-begun x) st list = refused x list
 
-unfoldable pub system-found : (budget : ℕ) → Head → (coefficients store : List ℤ) (list : List ℕ) → Found
-system-found b h cs st list = started-found b h (start-answer (start-check h cs st)) (start-store h cs st (start-check h cs st)) list
+unfoldable pub system_found : (budget : ℕ) → Head → (coefficients store : List ℤ) (list : List ℕ) → Found
+system_found b h cs st list = started_found b h (start_answer (start_check h cs st)) (start_store h cs st (start_check h cs st)) list
 
 -- ---- from a file
 abbrev pub read_found : (budget : ℕ) → Answer → (coefficients store : List ℤ) (list : List ℕ) → Found
-read_found b (System h) cs st list = system-found b h cs st list
+read_found b (System h) cs st list = system_found b h cs st list
 read_found b (Not-read x) cs st list = refused x list
 
-unfoldable pub file-found : (budget : ℕ) → List ℕ → (coefficients store : List ℤ) (list : List ℕ) → Found
-file-found b file cs st list = read_found b (reads file cs).0 (reads file cs).1 st list
+unfoldable pub file_found : (budget : ℕ) → List ℕ → (coefficients store : List ℤ) (list : List ℕ) → Found
+file_found b file cs st list = read_found b (reads file cs).0 (reads file cs).1 st list
 
 -- ---- "budget 1,000,000". Coefficients: m × S is at most 3 × 64. Store: (D + 1) × (6 + m × S) is at most 31 × 198. What they hold before is never read.
 unfoldable pub found : (file list : List ℕ) → Found
-found file list = file-found 1000000 file (replicate (3 * 64) (pos 0)) (replicate (31 * 198) (pos 0)) list
+found file list = file_found 1000000 file (replicate (3 * 64) (pos 0)) (replicate (31 * 198) (pos 0)) list
 
 -- ---- "list room 1,024", a record being seven numbers; and what is printed
 unfoldable pub report : List ℕ → List ℕ
 report file = told (found file (replicate (7 * 1024) 0)).answer (found file (replicate (7 * 1024) 0)).kept
 
 -- Every head within limits finds room there: the program refuses no file for want of room.
-abbrev pub Room-enough : Type 0
-Room-enough = (h : Head) → Limits h → (places h ≤ 3 * 64) × (needed h ≤ 31 * 198)
+abbrev pub RoomEnough : Type 0
+RoomEnough = (h : Head) → Limits h → (places h ≤ 3 * 64) × (needed h ≤ 31 * 198)

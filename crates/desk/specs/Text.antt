@@ -28,15 +28,15 @@ value v [] = v
 value v (d ∷ ds) = value (10 * v + (d - 48)) ds
 
 -- The digits of a number say that number, and they are as few as can be.
-abbrev pub Says-back : Type 0
-Says-back = (n : ℕ) → value 0 (decimal n) ≡ n
+abbrev pub SaysBack : Type 0
+SaysBack = (n : ℕ) → value 0 (decimal n) ≡ n
 
 -- Each is a digit, 48 to 57, and the first is not 0 unless the number is.
-abbrev pub Only-digits : Type 0
-Only-digits = (n i : ℕ) → i < length (decimal n) → (48 ≤ get_or (decimal n) i 0) × (get_or (decimal n) i 0 ≤ 57)
+abbrev pub OnlyDigits : Type 0
+OnlyDigits = (n i : ℕ) → i < length (decimal n) → (48 ≤ get_or (decimal n) i 0) × (get_or (decimal n) i 0 ≤ 57)
 
-abbrev pub No-leading-zero : Type 0
-No-leading-zero = (n : ℕ) → 0 < n → 48 < get_or (decimal n) 0 0
+abbrev pub NoLeadingZero : Type 0
+NoLeadingZero = (n : ℕ) → 0 < n → 48 < get_or (decimal n) 0 0
 
-abbrev pub As-few : Type 0
-As-few = (k n : ℕ) → n < 10 ^ suc k → length (decimal n) ≤ suc k
+abbrev pub AsFew : Type 0
+AsFew = (k n : ℕ) → n < 10 ^ suc k → length (decimal n) ≤ suc k

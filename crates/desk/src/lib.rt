@@ -1,11 +1,13 @@
 // What the desk program finds in a system file, and the text that tells it (01, "The program").
+#![tactic(auto)]
+
 pub mod printing;
 pub mod text;
 
 ghost use Rattle.std.specs.Prelude.{◌≡◌, ◌++◌, length, drop};
 ghost use Rattle.runs.specs.Lists.{listed, relisted};
 ghost use Rattle.desk.specs.Lines.{told};
-ghost use Rattle.desk.specs.Report.{system-found, file-found, found};
+ghost use Rattle.desk.specs.Report.{system_found, file_found, found};
 
 use crate::printing::put_answer;
 use file::reading::Answer as Reading;
@@ -14,8 +16,8 @@ use system::head::Head;
 use waiting::start::Started;
 
 fn search_system(h: Head, coefficients: &[i64], store: &mut [i64], list: &mut [u16]) -> Answer
-    ensures { (result ≡ (system-found 1000000 h coefficients.now store.old list.old).answer)
-        × (list.new ≡ relisted list.old (system-found 1000000 h coefficients.now store.old list.old).kept) }
+    ensures { (result ≡ (system_found 1000000 h coefficients.now store.old list.old).answer)
+        × (list.new ≡ relisted list.old (system_found 1000000 h coefficients.now store.old list.old).kept) }
 {
     let started = waiting::start::start(h, coefficients, store);
     match started {
@@ -25,8 +27,8 @@ fn search_system(h: Head, coefficients: &[i64], store: &mut [i64], list: &mut [u
 }
 
 fn search_file(file: &[u8], coefficients: &mut [i64], store: &mut [i64], list: &mut [u16]) -> Answer
-    ensures { (result ≡ (file-found 1000000 file.now coefficients.old store.old list.old).answer)
-        × (list.new ≡ relisted list.old (file-found 1000000 file.now coefficients.old store.old list.old).kept) }
+    ensures { (result ≡ (file_found 1000000 file.now coefficients.old store.old list.old).answer)
+        × (list.new ≡ relisted list.old (file_found 1000000 file.now coefficients.old store.old list.old).kept) }
 {
     let system = file::reading::read(file, coefficients);
     match system {

@@ -5,7 +5,7 @@ mod kept;
 ghost use Rattle.std.specs.Prelude.{◌≡◌, ◌+◌, ◌*◌, ◌≤◌, min, length};
 ghost use Rattle.file.specs.Bytes.{over};
 ghost use Rattle.runs.specs.Lists.{listed};
-ghost use Rattle.desk.specs.Lines.{told, lines-told};
+ghost use Rattle.desk.specs.Lines.{told, lines_told};
 
 pub use crate::printing::first::put_refusal;
 use crate::printing::first::put_stop;
@@ -20,7 +20,7 @@ fn least(a: usize, b: usize) -> usize
 
 // A number of the list has at most 5 digits, so that a record's line has at most 42 bytes.
 pub fn put_answer(t: &mut [u8], a: Answer, list: &[u16]) -> usize
-    requires { 93 + 42 * lines-told a (length list.now) ≤ length t.old }
+    requires { 93 + 42 * lines_told a (length list.now) ≤ length t.old }
     ensures { (result ≡ length (told a (listed list.now)))
         × (t.new ≡ over t.old 0 (told a (listed list.now))) }
 {

@@ -11,56 +11,56 @@ use Rattle.system.specs.declared.refusal.Refusal.TheVariants.{ExponentTooHigh, B
 use Rattle.system.specs.declared.head.Checked.TheVariants.{Good}
 use Rattle.system.specs.Chain.{test}
 use Rattle.file.specs.Layout.{Layout}
-use Rattle.file.specs.Terms.{exponents, place_of, value_of, in-range, is_zero, term, terms, here, coefficients}
-use Rattle.file.proofs.Tests.{both, and_intro, not-not, passed, pass, parts, chain}
+use Rattle.file.specs.Terms.{exponents, place_of, value_of, in_range, is_zero, term, terms, here, coefficients}
+use Rattle.file.proofs.Tests.{both, and_intro, not_not, passed, pass, parts, chain}
 
 -- what one term in order says
 pub record InOrder (L : Layout) (next : ℕ) (r : List ℕ) : Type 0 where
   pub inside : L.within (exponents r) ≡ true
-  pub ranged : in-range (value_of r) ≡ true
+  pub ranged : in_range (value_of r) ≡ true
   pub nonzero : is_zero (value_of r) ≡ false
   pub rising : next ≤ place_of L r
 
 module _ (L : Layout) where
-  term-good : (o next : ℕ) (r : List ℕ) → term L o next r ≡ Good → InOrder L next r
+  term_good : (o next : ℕ) (r : List ℕ) → term L o next r ≡ Good → InOrder L next r
   unfolding term
-  term-good o next r e =
+  term_good o next r e =
       let a = parts (test (L.within (exponents r)) ExponentTooHigh o) _ e in
-      let b = parts (test (in-range (value_of r) && not (is_zero (value_of r))) BadCoefficient o) (test (leb next (place_of L r)) NotRising o) a.1 in
-      let v = both (in-range (value_of r)) (not (is_zero (value_of r))) (passed _ BadCoefficient o b.0) in
+      let b = parts (test (in_range (value_of r) && not (is_zero (value_of r))) BadCoefficient o) (test (leb next (place_of L r)) NotRising o) a.1 in
+      let v = both (in_range (value_of r)) (not (is_zero (value_of r))) (passed _ BadCoefficient o b.0) in
       record {
         inside = passed _ ExponentTooHigh o a.0;
         ranged = v.0;
-        nonzero = not-not (is_zero (value_of r)) v.1;
+        nonzero = not_not (is_zero (value_of r)) v.1;
         rising = leb-true next (place_of L r) (passed _ NotRising o b.1);
       }
 
-  good-term : (o next : ℕ) (r : List ℕ) → InOrder L next r → term L o next r ≡ Good
+  good_term : (o next : ℕ) (r : List ℕ) → InOrder L next r → term L o next r ≡ Good
   unfolding term
-  good-term o next r g =
+  good_term o next r g =
       chain (pass ExponentTooHigh o g.inside)
       (chain (pass BadCoefficient o (and_intro g.ranged (ap not g.nonzero))) (pass NotRising o (le-leb next (place_of L r) g.rising)))
 
-  pub terms-good : (t o next : ℕ) (r : List ℕ) → terms L (suc t) o next r ≡ Good → InOrder L next r × (terms L t (o + 7) (place_of L r + 1) (drop 7 r) ≡ Good)
+  pub terms_good : (t o next : ℕ) (r : List ℕ) → terms L (suc t) o next r ≡ Good → InOrder L next r × (terms L t (o + 7) (place_of L r + 1) (drop 7 r) ≡ Good)
   unfolding terms
-  terms-good t o next r e = let a = parts (term L o next r) (terms L t (o + 7) (place_of L r + 1) (drop 7 r)) e in (term-good o next r a.0, a.1)
+  terms_good t o next r e = let a = parts (term L o next r) (terms L t (o + 7) (place_of L r + 1) (drop 7 r)) e in (term_good o next r a.0, a.1)
 
-  pub good-terms : (t o next : ℕ) (r : List ℕ) → InOrder L next r → terms L t (o + 7) (place_of L r + 1) (drop 7 r) ≡ Good → terms L (suc t) o next r ≡ Good
+  pub good_terms : (t o next : ℕ) (r : List ℕ) → InOrder L next r → terms L t (o + 7) (place_of L r + 1) (drop 7 r) ≡ Good → terms L (suc t) o next r ≡ Good
   unfolding terms
-  good-terms t o next r g e = chain (good-term o next r g) e
+  good_terms t o next r g e = chain (good_term o next r g) e
 
   -- the next term is beyond p
-  pub not-here : (t o p : ℕ) (r : List ℕ) → terms L t o (p + 1) r ≡ Good → here L t p r ≡ false
-  not-here zero o p r e = refl
-  not-here (suc t) o p r e =
-      let g = (terms-good t o (p + 1) r e).0.rising in
+  pub not_here : (t o p : ℕ) (r : List ℕ) → terms L t o (p + 1) r ≡ Good → here L t p r ≡ false
+  not_here zero o p r e = refl
+  not_here (suc t) o p r e =
+      let g = (terms_good t o (p + 1) r e).0.rising in
       let q : place_of L r ≡ p → ⊥ = λ z. omega arith in
       rw (ne_eqb (place_of L r) p q) (and-false (ltb 0 (suc t)))
 
-  pub is-here : (t p : ℕ) (r : List ℕ) → place_of L r ≡ p → here L (suc t) p r ≡ true
-  is-here t p r e = and_intro (lt-ltb 0 (suc t) (omega arith)) (eq-eqb (place_of L r) p e)
+  pub is_here : (t p : ℕ) (r : List ℕ) → place_of L r ≡ p → here L (suc t) p r ≡ true
+  is_here t p r e = and_intro (lt-ltb 0 (suc t) (omega arith)) (eq-eqb (place_of L r) p e)
 
-  pub coefficients-length : (n t p : ℕ) (r : List ℕ) → length (coefficients L n t p r) ≡ n
+  pub coefficients_length : (n t p : ℕ) (r : List ℕ) → length (coefficients L n t p r) ≡ n
   unfolding coefficients
-  coefficients-length zero t p r = refl
-  coefficients-length (suc n) t p r = ap suc (coefficients-length n (cond (here L t p r) (t - 1) t) (p + 1) (drop (cond (here L t p r) 7 0) r))
+  coefficients_length zero t p r = refl
+  coefficients_length (suc n) t p r = ap suc (coefficients_length n (cond (here L t p r) (t - 1) t) (p + 1) (drop (cond (here L t p r) 7 0) r))

@@ -8,9 +8,9 @@ use lib.ListN.{length, take, drop, set, length-drop, length-append, take-append-
 use lib.Seq.{sets-eq, take_at, drop_at, drop-drop, length-take-le}
 use Rattle.file.specs.Bytes.{over}
 
-pub over-length : (t : List ℕ) (at : ℕ) (bs : List ℕ) → at + length bs ≤ length t → length (over t at bs) ≡ length t
+pub over_length : (t : List ℕ) (at : ℕ) (bs : List ℕ) → at + length bs ≤ length t → length (over t at bs) ≡ length t
 unfolding over
-over-length t at bs h =
+over_length t at bs h =
     length-append (take at t) (bs ++ drop (at + length bs) t)
     ∙ rw (length-append bs (drop (at + length bs) t), length-drop (at + length bs) t, length-take-le at t (let z : at ≤ length t = omega arith in z)) (omega arith)
 
@@ -19,9 +19,9 @@ unfolding over
 over_none t at h = let e : at + 0 ≡ at = omega arith in rw e (take-append-drop at t)
 
 -- one put behind another
-pub over-over : (t : List ℕ) (at : ℕ) (ds bs : List ℕ) → at + (length ds + length bs) ≤ length t → over (over t at ds) (at + length ds) bs ≡ over t at (ds ++ bs)
+pub over_over : (t : List ℕ) (at : ℕ) (ds bs : List ℕ) → at + (length ds + length bs) ≤ length t → over (over t at ds) (at + length ds) bs ≡ over t at (ds ++ bs)
 unfolding over
-over-over t at ds bs h =
+over_over t at ds bs h =
     let tl : length (take at t) ≡ at = length-take-le at t (omega arith) in
     let fl : length (take at t ++ ds) ≡ at + length ds = length-append (take at t) ds ∙ rw tl refl in
     let s : take at t ++ (ds ++ drop (at + length ds) t) ≡ (take at t ++ ds) ++ drop (at + length ds) t = sym (append_assoc (take at t) ds (drop (at + length ds) t)) in
@@ -58,29 +58,29 @@ pub record Putting (t0 : List ℕ) (at : ℕ) (W : List ℕ) (o : ℕ) (t todo :
   pub so_far : t ≡ over t0 at done
 
 module _ (t0 : List ℕ) (at : ℕ) (W : List ℕ) (fit : at + length W ≤ length t0) where
-  pub putting-start : Putting t0 at W at t0 W
-  putting-start = record { done = []; all = refl; place = omega arith; so_far = sym (over_none t0 at (omega arith)) }
+  pub putting_start : Putting t0 at W at t0 W
+  putting_start = record { done = []; all = refl; place = omega arith; so_far = sym (over_none t0 at (omega arith)) }
 
   module _ (o : ℕ) (t bs rest : List ℕ) (i : Putting t0 at W o t (bs ++ rest)) where
     sizes : length i.done + (length bs + length rest) ≡ length W
     sizes = sym (ap length (sym i.all) ∙ length-append i.done (bs ++ rest) ∙ rw (length-append bs rest) refl)
 
-    pub putting-same : length t ≡ length t0
-    putting-same = ap length i.so_far ∙ over-length t0 at i.done (omega (arith, sizes))
+    pub putting_same : length t ≡ length t0
+    putting_same = ap length i.so_far ∙ over_length t0 at i.done (omega (arith, sizes))
 
-    pub putting-fits : o + length bs ≤ length t
-    putting-fits = omega (arith, sizes, putting-same, i.place)
+    pub putting_fits : o + length bs ≤ length t
+    putting_fits = omega (arith, sizes, putting_same, i.place)
 
-    pub putting-turn : (o' : ℕ) (t' : List ℕ) → o' ≡ o + length bs → t' ≡ over t o bs → Putting t0 at W o' t' rest
-    putting-turn o' t' eo et =
+    pub putting_turn : (o' : ℕ) (t' : List ℕ) → o' ≡ o + length bs → t' ≡ over t o bs → Putting t0 at W o' t' rest
+    putting_turn o' t' eo et =
         record {
           done = i.done ++ bs;
           all = append_assoc i.done bs rest ∙ i.all;
           place = rw (length-append i.done bs) (omega (arith, i.place));
-          so_far = et ∙ rw (i.so_far, i.place) (over-over t0 at i.done bs (omega (arith, sizes)));
+          so_far = et ∙ rw (i.so_far, i.place) (over_over t0 at i.done bs (omega (arith, sizes)));
         }
 
-  pub putting-over : (o : ℕ) (t : List ℕ) → Putting t0 at W o t [] → (o ≡ at + length W) × (t ≡ over t0 at W)
-  putting-over o t i =
+  pub putting_over : (o : ℕ) (t : List ℕ) → Putting t0 at W o t [] → (o ≡ at + length W) × (t ≡ over t0 at W)
+  putting_over o t i =
       let e : i.done ≡ W = sym (append-nil i.done) ∙ i.all in
       (rw (← e) i.place, rw (← e) i.so_far)

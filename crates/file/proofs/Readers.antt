@@ -50,18 +50,18 @@ reader = record {
 abbrev pub val : Reader → Val
 val = T'.lowered
 
-abbrev pub file-val : Bor (List ℕ) → Val
-file-val f = slice_val f.ref_ptr (length f.now)
+abbrev pub file_val : Bor (List ℕ) → Val
+file_val f = slice_val f.ref_ptr (length f.now)
 
 abbrev pub Own : Lft → Reader → Fml
 Own κ d = (Readers (κ, tt)).own_val d (val d ∷ [])
 
 abbrev pub File : Lft → Bor (List ℕ) → Fml
-File κ f = (ShrSlice (named 0) κ u8).own_val f (file-val f ∷ [])
+File κ f = (ShrSlice (named 0) κ u8).own_val f (file_val f ∷ [])
 
 module _ {M : Type 1} {𝓤 : Ura M} (𝓛 : Logic 𝓤) (κ : Lft) where
-  pub reader-typed : (d : Reader) → Is (Readers (κ, tt)) d (val d ∷ []) → Holds (has_ty (T'.mir (named 0)) (val d)) × WT (val d)
-  reader-typed d is = ((LL.lawful (T.the_type (named_lft 1 0 tt (κ, tt))) (T'.the_laws (named_lft 1 0 tt (κ, tt))) 𝓛).typed d _ is).0
+  pub reader_typed : (d : Reader) → Is (Readers (κ, tt)) d (val d ∷ []) → Holds (has_ty (T'.mir (named 0)) (val d)) × WT (val d)
+  reader_typed d is = ((LL.lawful (T.the_type (named_lft 1 0 tt (κ, tt))) (T'.the_laws (named_lft 1 0 tt (κ, tt))) 𝓛).typed d _ is).0
 
   pub apart : (d : Reader) → ent 𝓤 (sem 𝓛 (Own κ d)) (sep 𝓤 (sem 𝓛 (Own κ d)) (sem 𝓛 (File κ d.file)))
   apart d =

@@ -12,8 +12,8 @@ use Rattle.system.specs.Chain.{test, ◌then◌}
 pub no_way : {A : Type 0} → true ≡ false → A
 no_way e = let z : ◌≡◌ {A = ℕ} 0 1 = cc in absurd (omega arith)
 
-pub no-good : {A : Type 0} {x : refusal.Refused} → Refused x ≡ Good → A
-no-good e = let z : ◌≡◌ {A = ℕ} 0 1 = cc in absurd (omega arith)
+pub no_good : {A : Type 0} {x : refusal.Refused} → Refused x ≡ Good → A
+no_good e = let z : ◌≡◌ {A = ℕ} 0 1 = cc in absurd (omega arith)
 
 -- ---- Booleans
 pub both : (a b : Bool) → a && b ≡ true → (a ≡ true) × (b ≡ true)
@@ -23,21 +23,21 @@ both false b e = no_way (sym e)
 pub and_intro : {a b : Bool} → a ≡ true → b ≡ true → a && b ≡ true
 and_intro p q = rw (p, q) refl
 
-pub not-not : (b : Bool) → not b ≡ true → b ≡ false
-not-not true e = sym e
-not-not false e = refl
+pub not_not : (b : Bool) → not b ≡ true → b ≡ false
+not_not true e = sym e
+not_not false e = refl
 
 -- ---- tests
 pub passed : (b : Bool) (w : Refusal) (o : ℕ) → test b w o ≡ Good → b ≡ true
 passed true w o e = refl
-passed false w o e = no-good e
+passed false w o e = no_good e
 
 pub pass : {b : Bool} (w : Refusal) (o : ℕ) → b ≡ true → test b w o ≡ Good
 pass w o e = rw e refl
 
 pub parts : (a b : Checked) → a then b ≡ Good → (a ≡ Good) × (b ≡ Good)
 parts Good b e = (refl, e)
-parts (Refused x) b e = no-good e
+parts (Refused x) b e = no_good e
 
 pub chain : {a b : Checked} → a ≡ Good → b ≡ Good → a then b ≡ Good
 chain p q = rw (p, q) refl

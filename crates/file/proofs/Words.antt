@@ -11,31 +11,31 @@ use lib.Dec.{T, ltb→lt}
 use lib.ListN.{length, take, drop}
 use lib.Seq.{take-suc, get_or-drop}
 use Rattle.whole.specs.Size.{Below}
-use Rattle.whole.proofs.Parts.{by-lt}
-use Rattle.file.specs.Bytes.{byte, Bytes, Any-bytes, word16, word32, signed32, unsigned32, bytes16, four_bytes, bytes32}
+use Rattle.whole.proofs.Parts.{by_lt}
+use Rattle.file.specs.Bytes.{byte, Bytes, AnyBytes, word16, word32, signed32, unsigned32, bytes16, four_bytes, bytes32}
 
 -- ---- past the end stands a 0
-byte-below : (s : List ℕ) → ((i : ℕ) → i < length s → byte s i < 256) → (i : ℕ) → byte s i < 256
-byte-below [] h i = omega arith
-byte-below (x ∷ s) h zero = h 0 (omega arith)
-byte-below (x ∷ s) h (suc i) = byte-below s (λ k l. h (suc k) (omega arith)) i
+byte_below : (s : List ℕ) → ((i : ℕ) → i < length s → byte s i < 256) → (i : ℕ) → byte s i < 256
+byte_below [] h i = omega arith
+byte_below (x ∷ s) h zero = h 0 (omega arith)
+byte_below (x ∷ s) h (suc i) = byte_below s (λ k l. h (suc k) (omega arith)) i
 
-pub any-bytes : Any-bytes
-any-bytes s h = record { at = byte-below s h }
+pub any_bytes : AnyBytes
+any_bytes s h = record { at = byte_below s h }
 
 -- ---- two bytes
-pub word16-bytes : (n : ℕ) → n % 256 + 256 * (n / 256) ≡ n
-word16-bytes n = omega arith
+pub word16_bytes : (n : ℕ) → n % 256 + 256 * (n / 256) ≡ n
+word16_bytes n = omega arith
 
-pub bytes-word16 : (a b : ℕ) → a < 256 → bytes16 (a + 256 * b) ≡ a ∷ b ∷ []
-bytes-word16 a b h =
+pub bytes_word16 : (a b : ℕ) → a < 256 → bytes16 (a + 256 * b) ≡ a ∷ b ∷ []
+bytes_word16 a b h =
     let e : (a + 256 * b) % 256 ≡ a = omega arith in
     let f : (a + 256 * b) / 256 ≡ b = omega arith in
     rw (e, f) refl
 
 -- a number below 256 in two bytes
-pub word16-small : (s : List ℕ) (i n : ℕ) → Bytes s → word16 s i ≡ n → n < 256 → (byte s i ≡ n) × (byte s (i + 1) ≡ 0)
-word16-small s i n b e h = (omega (arith, b.at i), omega (arith, b.at i))
+pub word16_small : (s : List ℕ) (i n : ℕ) → Bytes s → word16 s i ≡ n → n < 256 → (byte s i ≡ n) × (byte s (i + 1) ≡ 0)
+word16_small s i n b e h = (omega (arith, b.at i), omega (arith, b.at i))
 
 -- ---- the sign of four bytes
 pub signed_low : (u : ℕ) → u < 2147483648 → pos u ≡ signed32 u
@@ -46,18 +46,18 @@ pub signed_high : (u : ℕ) → 2147483648 ≤ u → neg_ℤ (pos (4294967296 - 
 unfolding signed32
 signed_high u h = rw (le-ltb u 2147483648 h) refl
 
-pub unsigned-below : (x : ℤ) → Below 2147483648 x → lt_z x (pos 0) ≡ true → (4294967296 - nat_abs x ≡ unsigned32 x) × (4294967296 - nat_abs x < 4294967296)
+pub unsigned_below : (x : ℤ) → Below 2147483648 x → lt_z x (pos 0) ≡ true → (4294967296 - nat_abs x ≡ unsigned32 x) × (4294967296 - nat_abs x < 4294967296)
 unfolding unsigned32
-unsigned-below (pos n) b e = absurd (no n (ltb→lt n 0 (subst T (sym e) tt)))
+unsigned_below (pos n) b e = absurd (no n (ltb→lt n 0 (subst T (sym e) tt)))
   where
     no : (n : ℕ) → n < 0 → ⊥
     no n h = omega arith
-unsigned-below (negsuc n) b e = omega arith
+unsigned_below (negsuc n) b e = omega arith
 
-pub unsigned-above : (x : ℤ) → Below 2147483648 x → lt_z x (pos 0) ≡ false → (nat_abs x ≡ unsigned32 x) × (nat_abs x < 4294967296)
+pub unsigned_above : (x : ℤ) → Below 2147483648 x → lt_z x (pos 0) ≡ false → (nat_abs x ≡ unsigned32 x) × (nat_abs x < 4294967296)
 unfolding unsigned32
-unsigned-above (pos n) b e = (refl, omega arith)
-unsigned-above (negsuc n) b e = absurd (subst T e tt)
+unsigned_above (pos n) b e = (refl, omega arith)
+unsigned_above (negsuc n) b e = absurd (subst T e tt)
 
 pub signed_back : (x : ℤ) → Below 2147483648 x → signed32 (unsigned32 x) ≡ x
 unfolding unsigned32
@@ -72,15 +72,15 @@ negated (suc n) p q = omega arith
 pub unsigned_back : (u : ℕ) → u < 4294967296 → unsigned32 (signed32 u) ≡ u
 unfolding unsigned32
 unsigned_back u h =
-    by-lt u 2147483648 (λ p. ap unsigned32 (sym (signed_low u p)))
+    by_lt u 2147483648 (λ p. ap unsigned32 (sym (signed_low u p)))
     (λ q. ap unsigned32 (sym (signed_high u q)) ∙ negated (4294967296 - u) (omega arith) (omega arith) ∙ (let e : 4294967296 - (4294967296 - u) ≡ u = omega arith in e))
 
 -- ---- four bytes
-pub word32-bytes : (u : ℕ) → u % 256 + 256 * (u / 256 % 256) + 65536 * (u / 256 / 256 % 256) + 16777216 * (u / 256 / 256 / 256) ≡ u
-word32-bytes u = omega arith
+pub word32_bytes : (u : ℕ) → u % 256 + 256 * (u / 256 % 256) + 65536 * (u / 256 / 256 % 256) + 16777216 * (u / 256 / 256 / 256) ≡ u
+word32_bytes u = omega arith
 
-bytes-word32 : (a b c d : ℕ) → a < 256 → b < 256 → c < 256 → d < 256 → four_bytes (a + 256 * b + 65536 * c + 16777216 * d) ≡ a ∷ b ∷ c ∷ d ∷ []
-bytes-word32 a b c d ha hb hc hd =
+bytes_word32 : (a b c d : ℕ) → a < 256 → b < 256 → c < 256 → d < 256 → four_bytes (a + 256 * b + 65536 * c + 16777216 * d) ≡ a ∷ b ∷ c ∷ d ∷ []
+bytes_word32 a b c d ha hb hc hd =
     let e0 : (a + 256 * b + 65536 * c + 16777216 * d) % 256 ≡ a = omega arith in
     let f1 : (a + 256 * b + 65536 * c + 16777216 * d) / 256 ≡ b + 256 * c + 65536 * d = omega arith in
     let e1 : (b + 256 * c + 65536 * d) % 256 ≡ b = omega arith in
@@ -90,21 +90,21 @@ bytes-word32 a b c d ha hb hc hd =
     rw (f1, f2, e0, e1, e2, e3) refl
 
 -- four bytes, read and written
-pub bytes32-back : (r : List ℕ) (i : ℕ) → Bytes r → bytes32 (signed32 (word32 r i)) ≡ byte r i ∷ byte r (i + 1) ∷ byte r (i + 2) ∷ byte r (i + 3) ∷ []
-bytes32-back r i b =
+pub bytes32_back : (r : List ℕ) (i : ℕ) → Bytes r → bytes32 (signed32 (word32 r i)) ≡ byte r i ∷ byte r (i + 1) ∷ byte r (i + 2) ∷ byte r (i + 3) ∷ []
+bytes32_back r i b =
     rw (unsigned_back (word32 r i) (omega (arith, b.at i, b.at (i + 1), b.at (i + 2), b.at (i + 3))))
-    (bytes-word32 (byte r i) (byte r (i + 1)) (byte r (i + 2)) (byte r (i + 3)) (b.at i) (b.at (i + 1)) (b.at (i + 2)) (b.at (i + 3)))
+    (bytes_word32 (byte r i) (byte r (i + 1)) (byte r (i + 2)) (byte r (i + 3)) (b.at i) (b.at (i + 1)) (b.at (i + 2)) (b.at (i + 3)))
 
 -- a number, written and read
-pub value-back : (x : ℤ) → Below 2147483648 x → (let u = unsigned32 x in signed32 (u % 256 + 256 * (u / 256 % 256) + 65536 * (u / 256 / 256 % 256) + 16777216 * (u / 256 / 256 / 256))) ≡ x
-value-back x b = rw (word32-bytes (unsigned32 x)) (signed_back x b)
+pub value_back : (x : ℤ) → Below 2147483648 x → (let u = unsigned32 x in signed32 (u % 256 + 256 * (u / 256 % 256) + 65536 * (u / 256 / 256 % 256) + 16777216 * (u / 256 / 256 / 256))) ≡ x
+value_back x b = rw (word32_bytes (unsigned32 x)) (signed_back x b)
 
 -- ---- bytes further on
-pub byte-drop : (s : List ℕ) (at i : ℕ) → byte (drop at s) i ≡ byte s (at + i)
-byte-drop s at i = get_or-drop at s i 0
+pub byte_drop : (s : List ℕ) (at i : ℕ) → byte (drop at s) i ≡ byte s (at + i)
+byte_drop s at i = get_or-drop at s i 0
 
 pub bytes_drop : (n : ℕ) {s : List ℕ} → Bytes s → Bytes (drop n s)
-bytes_drop n {s} b = record { at = λ i. rw (byte-drop s n i) (b.at (n + i)) }
+bytes_drop n {s} b = record { at = λ i. rw (byte_drop s n i) (b.at (n + i)) }
 
 -- ---- the first elements of a list, one by one
 pub take4 : (r : List ℕ) → 4 ≤ length r → take 4 r ≡ byte r 0 ∷ byte r 1 ∷ byte r 2 ∷ byte r 3 ∷ []

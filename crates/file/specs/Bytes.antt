@@ -9,8 +9,8 @@ byte s i = get_or s i 0
 pub record Bytes (s : List ℕ) : Type 0 where
   pub at : (i : ℕ) → byte s i < 256
 
-abbrev pub Any-bytes : Type 0
-Any-bytes = (s : List ℕ) → ((i : ℕ) → i < length s → byte s i < 256) → Bytes s
+abbrev pub AnyBytes : Type 0
+AnyBytes = (s : List ℕ) → ((i : ℕ) → i < length s → byte s i < 256) → Bytes s
 
 -- ---- from bytes to numbers: what the two, the four bytes from i on say
 abbrev pub word16 : List ℕ → ℕ → ℕ

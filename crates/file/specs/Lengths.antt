@@ -9,9 +9,9 @@ use Rattle.file.specs.declared.reading.Answer.{Answer}
 abbrev pub longest : ℕ
 longest = 12 + 3 * (5 + 7 * 64) + 4
 
-abbrev pub Read-is-short : Type 0
-Read-is-short = (s : List ℕ) (out : List ℤ) (h : Head) → (reads s out).0 ≡ Answer.System h → length s ≤ longest
+abbrev pub ReadIsShort : Type 0
+ReadIsShort = (s : List ℕ) (out : List ℤ) (h : Head) → (reads s out).0 ≡ Answer.System h → length s ≤ longest
 
 -- Whoever reads more bytes than that reads all that counts: a longer file is refused, and with the same number at the same offset whether its end is read or not.
-abbrev pub Front-decides : Type 0
-Front-decides = (s : List ℕ) (out : List ℤ) (n : ℕ) → longest < n → reads (take n s) out ≡ reads s out
+abbrev pub FrontDecides : Type 0
+FrontDecides = (s : List ℕ) (out : List ℤ) (n : ℕ) → longest < n → reads (take n s) out ≡ reads s out

@@ -9,43 +9,43 @@ use Rattle.system.specs.declared.head.Checked.{Checked}
 use Rattle.system.specs.declared.head.Checked.TheVariants.{Good, Refused}
 use Rattle.system.specs.Chain.{test, ◌then◌}
 use Rattle.file.specs.Layout.{Layout, layout}
-use Rattle.file.specs.Records.{length-of, due}
+use Rattle.file.specs.Records.{length_of, due}
 use Rattle.file.specs.Terms.{terms, coefficients}
 use Rattle.file.specs.declared.parser.Shape.{Shape}
 use Rattle.file.specs.declared.reading.Answer.{Answer}
 
 -- ---- the bodies' lengths: 8 bytes; a number and up to S terms; none
-abbrev pub head-shape : Shape
-head-shape = record { base = 8; unit = 1; most = 0 }
+abbrev pub head_shape : Shape
+head_shape = record { base = 8; unit = 1; most = 0 }
 
-abbrev pub polynomial-shape : ℕ → Shape
-polynomial-shape s = record { base = 1; unit = 7; most = s }
+abbrev pub polynomial_shape : ℕ → Shape
+polynomial_shape s = record { base = 1; unit = 7; most = s }
 
-abbrev pub end-shape : Shape
-end-shape = record { base = 0; unit = 1; most = 0 }
+abbrev pub end_shape : Shape
+end_shape = record { base = 0; unit = 1; most = 0 }
 
 -- ---- kind 2: the polynomial with the number k
-abbrev pub term-count : List ℕ → ℕ
-term-count r = (length-of r - 1) / 7
+abbrev pub term_count : List ℕ → ℕ
+term_count r = (length_of r - 1) / 7
 
 unfoldable pub polynomial : Layout → ℕ → ℕ → List ℕ → Checked
 polynomial L k o r =
-    due 2 (polynomial-shape L.size) o r
+    due 2 (polynomial_shape L.size) o r
     then test (eqb (byte r 4) k) Refusal.NotDue o
-    then terms L (term-count r) (o + 5) 0 (drop 5 r)
+    then terms L (term_count r) (o + 5) 0 (drop 5 r)
 
 -- ---- kind 3, "last, empty", and nothing after it
 unfoldable pub ending : ℕ → List ℕ → Checked
-ending o r = due 3 end-shape o r then test (leb (length r) 4) Refusal.ExtraBytes (o + 4)
+ending o r = due 3 end_shape o r then test (leb (length r) 4) Refusal.ExtraBytes (o + 4)
 
 -- ---- j polynomials, the first of which has the number k; then the end
 unfoldable pub polynomials : Layout → ℕ → ℕ → ℕ → List ℕ → Checked
 polynomials L zero k o r = ending o r
-polynomials L (suc j) k o r = polynomial L k o r then polynomials L j (k + 1) (o + (4 + length-of r)) (drop (4 + length-of r) r)
+polynomials L (suc j) k o r = polynomial L k o r then polynomials L j (k + 1) (o + (4 + length_of r)) (drop (4 + length_of r) r)
 
 unfoldable pub numbers_of : Layout → ℕ → List ℕ → List ℤ
 numbers_of L zero r = []
-numbers_of L (suc j) r = coefficients L L.size (term-count r) 0 (drop 5 r) ++ numbers_of L j (drop (4 + length-of r) r)
+numbers_of L (suc j) r = coefficients L L.size (term_count r) 0 (drop 5 r) ++ numbers_of L j (drop (4 + length_of r) r)
 
 -- ---- kind 1, first
 abbrev pub head_of : List ℕ → Head
@@ -54,7 +54,7 @@ head_of s = record { l = byte s 4; m = byte s 5; n1 = byte s 6; n2 = byte s 7; n
 -- ---- the whole file
 unfoldable pub checked : List ℕ → Checked
 checked s =
-    due 1 head-shape 0 s
+    due 1 head_shape 0 s
     then test (head_ok (head_of s)) Refusal.OutOfLimits 0
     then polynomials (layout (head_of s)) (head_of s).m 1 12 (drop 12 s)
 

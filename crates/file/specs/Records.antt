@@ -9,16 +9,16 @@ use Rattle.file.specs.declared.parser.Shape.{Shape}
 use Rattle.file.specs.declared.parser.Step.{Step}
 use Rattle.file.specs.declared.parser.Step.TheVariants.{Record, Refused}
 
-abbrev pub length-of : List ℕ → ℕ
-length-of r = word16 r 0
+abbrev pub length_of : List ℕ → ℕ
+length_of r = word16 r 0
 
-abbrev pub kind-of : List ℕ → ℕ
-kind-of r = word16 r 2
+abbrev pub kind_of : List ℕ → ℕ
+kind_of r = word16 r 2
 
 -- whatever its kind: "Alone, a step refuses only with 1"
 unfoldable pub step : ℕ → List ℕ → Step
 step o r =
-    cond (leb 4 (length r) && leb (4 + length-of r) (length r)) (Step.Record (kind-of r) (o + 4) (length-of r)) (Step.Refused (record { why = Refusal.Ended; at = o }))
+    cond (leb 4 (length r) && leb (4 + length_of r) (length r)) (Step.Record (kind_of r) (o + 4) (length_of r)) (Step.Refused (record { why = Refusal.Ended; at = o }))
 
 -- "with its body as a part"; none where the record is cut short
 abbrev pub part_of : Step → List ℕ → List ℕ
@@ -36,6 +36,6 @@ fits s n = leb s.base n && eqb ((n - s.base) % s.unit) 0 && leb ((n - s.base) / 
 unfoldable pub due : ℕ → Shape → ℕ → List ℕ → Checked
 due kind shape o r =
     test (leb 4 (length r)) Refusal.Ended o
-    then test (eqb (kind-of r) kind) Refusal.NotDue o
-    then test (fits shape (length-of r)) Refusal.WrongLength o
-    then test (leb (4 + length-of r) (length r)) Refusal.Ended o
+    then test (eqb (kind_of r) kind) Refusal.NotDue o
+    then test (fits shape (length_of r)) Refusal.WrongLength o
+    then test (leb (4 + length_of r) (length r)) Refusal.Ended o

@@ -19,8 +19,8 @@ abbrev pub value_of : List ℕ → ℤ
 value_of r = signed32 (word32 r 3)
 
 -- "-1,000,000,000 to 1,000,000,000"
-abbrev pub in-range : ℤ → Bool
-in-range x = leb (nat_abs x) 1000000000
+abbrev pub in_range : ℤ → Bool
+in_range x = leb (nat_abs x) 1000000000
 
 abbrev pub is_zero : ℤ → Bool
 is_zero x = eqb (nat_abs x) 0
@@ -29,7 +29,7 @@ is_zero x = eqb (nat_abs x) 0
 unfoldable pub term : Layout → ℕ → ℕ → List ℕ → Checked
 term L o next r =
     test (L.within (exponents r)) Refusal.ExponentTooHigh o
-    then test (in-range (value_of r) && not (is_zero (value_of r))) Refusal.BadCoefficient o
+    then test (in_range (value_of r) && not (is_zero (value_of r))) Refusal.BadCoefficient o
     then test (leb next (place_of L r)) Refusal.NotRising o
 
 -- t terms; next is one above the place of the term before

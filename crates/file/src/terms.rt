@@ -2,7 +2,7 @@
 ghost use Rattle.std.specs.Prelude.{◌≡◌, cond, ◌&&◌, ◌++◌, ◌+◌, ◌-◌, ◌*◌, ◌≤◌, ◌<◌, pos, length, take, drop};
 ghost use Rattle.bernstein.specs.Three.{three};
 ghost use Rattle.file.specs.Layout.{layout};
-ghost use Rattle.file.specs.Terms.{exponents, place_of, value_of, in-range, is_zero, term, terms, here, coefficients};
+ghost use Rattle.file.specs.Terms.{exponents, place_of, value_of, in_range, is_zero, term, terms, here, coefficients};
 
 use system::head::{Checked, Head};
 use system::refusal::{Refusal, Refused};
@@ -41,7 +41,7 @@ fn value_at(file: &[u8], at: usize) -> i64
 }
 
 pub fn in_range(x: i64) -> bool
-    ensures { result ≡ in-range x }
+    ensures { result ≡ in_range x }
 {
     both(x <= 1000000000, -1000000000 <= x)
 }

@@ -11,22 +11,22 @@ use lib.Dec.{ltb, ltb→lt, nltb→le}
 use lib.IntN.{ℤ, pos, ◌+ℤ◌, ◌*ℤ◌, +ℤ_comm}
 use Rattle.whole.proofs.Ring.{one-*ℤ}
 use Rattle.whole.proofs.Order.{cond_ind}
-use Rattle.whole.proofs.Parts.{by-lt}
+use Rattle.whole.proofs.Parts.{by_lt}
 use Rattle.bernstein.specs.Numbers.{after}
-use Rattle.bernstein.proofs.Sizes.{after-below}
-use Rattle.lines.specs.Lines.{at, Line, along, In-place, Under, only}
-use Rattle.lines.specs.Inside.{Row-put, sum-down, summed, raised, stepped, Row, Block, Entries-below, Sums-below, Raised-below, Ready}
+use Rattle.bernstein.proofs.Sizes.{after_below}
+use Rattle.lines.specs.Lines.{at, Line, along, InPlace, Under, only}
+use Rattle.lines.specs.Inside.{RowPut, sum_down, summed, raised, stepped, Row, Block, EntriesBelow, SumsBelow, RaisedBelow, Ready}
 use Rattle.lines.proofs.Rows.{row_before, at_row, row_of}
 use Rattle.lines.proofs.Turns.{Turning, turn}
 
 -- ---- the sums: row i and those after it are done, and row i - 1 is next
-pub summed-last : (j : ℕ) (b : Line) (i : ℕ) → i ≤ j → j ≤ i → b i ≡ summed j b i
-unfolding sum-down
-summed-last j b i h k = let e : i ≡ j = omega arith in let z : j - i ≡ 0 = omega arith in rw (z, e) refl
+pub summed_last : (j : ℕ) (b : Line) (i : ℕ) → i ≤ j → j ≤ i → b i ≡ summed j b i
+unfolding sum_down
+summed_last j b i h k = let e : i ≡ j = omega arith in let z : j - i ≡ 0 = omega arith in rw (z, e) refl
 
-summed-next : (j : ℕ) (b : Line) (i : ℕ) → 0 < i → i ≤ j → b (i - 1) +ℤ summed j b i ≡ summed j b (i - 1)
-unfolding sum-down
-summed-next j b i p h = let e : j - (i - 1) ≡ suc (j - i) = omega arith in let z : j - suc (j - i) ≡ i - 1 = omega arith in rw (e, z) refl
+summed_next : (j : ℕ) (b : Line) (i : ℕ) → 0 < i → i ≤ j → b (i - 1) +ℤ summed j b i ≡ summed j b (i - 1)
+unfolding sum_down
+summed_next j b i p h = let e : j - (i - 1) ≡ suc (j - i) = omega arith in let z : j - suc (j - i) ≡ i - 1 = omega arith in rw (e, z) refl
 
 pub record Summing (w up inner j : ℕ) (old : List ℤ) (p i : ℕ) (l : List ℤ) : Type 0 where
   pub place : p ≡ up + i * inner
@@ -46,48 +46,48 @@ module _ {w up inner j p i : ℕ} {old l : List ℤ} (b : Block w up inner j old
   last_row : (f : ℕ) → f < w → at l (up + f + i * inner) ≡ summed j (along old (up + f) inner) i
   last_row f h = t.rows.done f i h t.within (omega arith)
 
-  pub sum_rows : Entries-below w up inner j old → Sums-below w up inner j old → Row (2 ^ 62) w (p - inner) (λ z. z) l × Row (2 ^ 62) w p (λ z. z) l
+  pub sum_rows : EntriesBelow w up inner j old → SumsBelow w up inner j old → Row (2 ^ 62) w (p - inner) (λ z. z) l × Row (2 ^ 62) w p (λ z. z) l
   sum_rows e s = (
     row_of (i - 1) b t.rows.size (omega (arith, t.within)) before (λ f h. rw (next_row f h) (e f (i - 1) h (omega (arith, t.within)))),
     row_of i b t.rows.size t.within t.place (λ f h. rw (last_row f h) (s f (j - i) h (omega arith))),
   )
 
-  pub sum-turn : {m : List ℤ} → Row-put (p - inner) w (λ f. at l (p - inner + f) +ℤ at l (p + f)) l m → Summing w up inner j old (p - inner) (i - 1) m
-  sum-turn r = record {
+  pub sum_turn : {m : List ℤ} → RowPut (p - inner) w (λ f. at l (p - inner + f) +ℤ at l (p + f)) l m → Summing w up inner j old (p - inner) (i - 1) m
+  sum_turn r = record {
     place = before;
     within = omega (arith, t.within);
     rows = turn (i - 1) b.apart (omega (arith, t.within)) before (λ k d. omega arith) (omega arith) (λ k d o. omega arith) t.rows r
         (λ f h. ap₂ ◌+ℤ◌ (at_row up inner (i - 1) l before f ∙ next_row f h) (at_row up inner i l t.place f ∙ last_row f h)
-        ∙ summed-next j (along old (up + f) inner) i i0 t.within);
+        ∙ summed_next j (along old (up + f) inner) i i0 t.within);
   }
 
 -- ---- the powers of two: the rows before i are done, and row i is next
-pub raised-none : (b : Line) (i : ℕ) → i < 1 → b i ≡ raised b i
-raised-none b i h = let z : i ≡ 0 = omega arith in rw z (sym (one-*ℤ (b 0)))
+pub raised_none : (b : Line) (i : ℕ) → i < 1 → b i ≡ raised b i
+raised_none b i h = let z : i ≡ 0 = omega arith in rw z (sym (one-*ℤ (b 0)))
 
 module _ {w up inner n i : ℕ} {old l : List ℤ} (b : Block w up inner n old) (within : i ≤ n) (t : Turning raised (λ k. k < i) w up inner n old l) where
-  this-row : (f : ℕ) → f < w → at l (up + f + i * inner) ≡ at old (up + f + i * inner)
-  this-row f h = t.todo f i h within (λ d. omega arith)
+  this_row : (f : ℕ) → f < w → at l (up + f + i * inner) ≡ at old (up + f + i * inner)
+  this_row f h = t.todo f i h within (λ d. omega arith)
 
-  pub raise-row : Raised-below w up inner n old → Row (2 ^ 63) w (up + i * inner) (λ z. pos (2 ^ i) *ℤ z) l
-  raise-row s = row_of i b t.size within refl (λ f h. rw (this-row f h) (s f i h within))
+  pub raise_row : RaisedBelow w up inner n old → Row (2 ^ 63) w (up + i * inner) (λ z. pos (2 ^ i) *ℤ z) l
+  raise_row s = row_of i b t.size within refl (λ f h. rw (this_row f h) (s f i h within))
 
-  pub raise-turn : {m : List ℤ} → Row-put (up + i * inner) w (λ f. pos (2 ^ i) *ℤ at l (up + i * inner + f)) l m → Turning raised (λ k. k < i + 1) w up inner n old m
-  raise-turn r = turn i b.apart within refl (λ k d. omega arith) (omega arith) (λ k d o. omega arith) t r
-      (λ f h. ap (λ (z : ℤ). pos (2 ^ i) *ℤ z) (at_row up inner i l refl f ∙ this-row f h))
+  pub raise_turn : {m : List ℤ} → RowPut (up + i * inner) w (λ f. pos (2 ^ i) *ℤ at l (up + i * inner + f)) l m → Turning raised (λ k. k < i + 1) w up inner n old m
+  raise_turn r = turn i b.apart within refl (λ k d. omega arith) (omega arith) (λ k d o. omega arith) t r
+      (λ f h. ap (λ (z : ℤ). pos (2 ^ i) *ℤ z) (at_row up inner i l refl f ∙ this_row f h))
 
 -- ---- a step: the rows after j are done, and row j is next
-pub stepped-sum : (k : ℕ) (b : Line) (j : ℕ) → k < j → stepped k b j ≡ b (j - 1) +ℤ b j
+pub stepped_sum : (k : ℕ) (b : Line) (j : ℕ) → k < j → stepped k b j ≡ b (j - 1) +ℤ b j
 unfolding stepped
-stepped-sum k b j h = cond_ind (ltb k j) (b (j - 1) +ℤ b j) (b j) (λ z. z ≡ b (j - 1) +ℤ b j) (λ t. refl) (λ t. let q : j ≤ k = nltb→le k j t in absurd (omega arith))
+stepped_sum k b j h = cond_ind (ltb k j) (b (j - 1) +ℤ b j) (b j) (λ z. z ≡ b (j - 1) +ℤ b j) (λ t. refl) (λ t. let q : j ≤ k = nltb→le k j t in absurd (omega arith))
 
 pub stepped_same : (k : ℕ) (b : Line) (j : ℕ) → j ≤ k → stepped k b j ≡ b j
 unfolding stepped
 stepped_same k b j h = cond_ind (ltb k j) (b (j - 1) +ℤ b j) (b j) (λ z. z ≡ b j) (λ t. let q : k < j = ltb→lt k j t in absurd (omega arith)) (λ t. refl)
 
 module _ {first inner k n j : ℕ} {old l : List ℤ} (b : Block 1 first inner n old) (kj : k < j) (within : j ≤ n) (t : Turning (stepped k) (λ i. j < i) 1 first inner n old l) where
-  before-row : first + j * inner - inner ≡ first + (j - 1) * inner
-  before-row = let z : 0 < j = omega arith in omega (arith, row_before inner z)
+  before_row : first + j * inner - inner ≡ first + (j - 1) * inner
+  before_row = let z : 0 < j = omega arith in omega (arith, row_before inner z)
 
   pub step_room : inner ≤ first + j * inner
   step_room = let z : 0 < j = omega arith in omega (arith, row_before inner z)
@@ -95,41 +95,41 @@ module _ {first inner k n j : ℕ} {old l : List ℤ} (b : Block 1 first inner n
   still : (f i : ℕ) → f < 1 → i ≤ j → at l (first + f + i * inner) ≡ at old (first + f + i * inner)
   still f i h q = t.todo f i h (omega arith) (λ d. omega arith)
 
-  pub step-rows : Entries-below 1 first inner n old → Row (2 ^ 62) 1 (first + j * inner) (λ z. z) l × Row (2 ^ 62) 1 (first + j * inner - inner) (λ z. z) l
-  step-rows e = (
+  pub step_rows : EntriesBelow 1 first inner n old → Row (2 ^ 62) 1 (first + j * inner) (λ z. z) l × Row (2 ^ 62) 1 (first + j * inner - inner) (λ z. z) l
+  step_rows e = (
     row_of j b t.size within refl (λ f h. rw (still f j h (omega arith)) (e f j h within)),
-    row_of (j - 1) b t.size (omega arith) before-row (λ f h. rw (still f (j - 1) h (omega arith)) (e f (j - 1) h (omega arith))),
+    row_of (j - 1) b t.size (omega arith) before_row (λ f h. rw (still f (j - 1) h (omega arith)) (e f (j - 1) h (omega arith))),
   )
 
-  pub step-turn : {m : List ℤ} → Row-put (first + j * inner) 1 (λ f. at l (first + j * inner + f) +ℤ at l (first + j * inner - inner + f)) l m
+  pub step_turn : {m : List ℤ} → RowPut (first + j * inner) 1 (λ f. at l (first + j * inner + f) +ℤ at l (first + j * inner - inner + f)) l m
       → Turning (stepped k) (λ i. j - 1 < i) 1 first inner n old m
-  step-turn r = turn j b.apart within refl (λ i d. omega arith) (omega arith) (λ i d o. omega arith) t r
-      (λ f h. ap₂ ◌+ℤ◌ (at_row first inner j l refl f ∙ still f j h (omega arith)) (at_row first inner (j - 1) l before-row f ∙ still f (j - 1) h (omega arith))
-      ∙ +ℤ_comm (along old (first + f) inner j) (along old (first + f) inner (j - 1)) ∙ sym (stepped-sum k (along old (first + f) inner) j kj))
+  step_turn r = turn j b.apart within refl (λ i d. omega arith) (omega arith) (λ i d o. omega arith) t r
+      (λ f h. ap₂ ◌+ℤ◌ (at_row first inner j l refl f ∙ still f j h (omega arith)) (at_row first inner (j - 1) l before_row f ∙ still f (j - 1) h (omega arith))
+      ∙ +ℤ_comm (along old (first + f) inner j) (along old (first + f) inner (j - 1)) ∙ sym (stepped_sum k (along old (first + f) inner) j kj))
 
 pub step_end : (k n j : ℕ) → k ≤ j → j ≤ k → (i : ℕ) → i ≤ n → (j < i) ⊎ ((j < i → ⊥) × ((b : Line) → b i ≡ stepped k b i))
-step_end k n j h q i m = by-lt j i inl (λ p. inr (λ d. omega arith, λ b. sym (stepped_same k b i (omega arith))))
+step_end k n j h q i m = by_lt j i inl (λ p. inr (λ d. omega arith, λ b. sym (stepped_same k b i (omega arith))))
 
 -- ---- k steps, one after the other
-stepped-after : (b e : Line) (k n : ℕ) → ((j : ℕ) → j ≤ n → e j ≡ after b k j) → (j : ℕ) → j ≤ n → stepped k e j ≡ after b (k + 1) j
+stepped_after : (b e : Line) (k n : ℕ) → ((j : ℕ) → j ≤ n → e j ≡ after b k j) → (j : ℕ) → j ≤ n → stepped k e j ≡ after b (k + 1) j
 unfolding stepped after
-stepped-after b e k n s j h = rw (add-one k) (ap₂ (λ x y. cond (ltb k j) (x +ℤ y) y) (s (j - 1) (omega arith)) (s j h))
+stepped_after b e k n s j h = rw (add-one k) (ap₂ (λ x y. cond (ltb k j) (x +ℤ y) y) (s (j - 1) (omega arith)) (s j h))
 
-pub no_step : {F : ℕ → Type 0} {first inner n : ℕ} {l : List ℤ} → In-place (λ b. after b 0) F first inner n l l
+pub no_step : {F : ℕ → Type 0} {first inner n : ℕ} {l : List ℤ} → InPlace (λ b. after b 0) F first inner n l l
 unfolding after
 no_step = record { size = refl; entries = λ u f j h q. refl; kept = λ p o. refl }
 
-pub one-step : (k : ℕ) {F : ℕ → Type 0} {first inner n : ℕ} {old l m : List ℤ} → In-place (λ b. after b k) F first inner n old l → In-place (stepped k) F first inner n l m → In-place (λ b. after b (k + 1)) F first inner n old m
-one-step k {F} {first} {inner} {n} {old} {l} t s = record {
+pub one_step : (k : ℕ) {F : ℕ → Type 0} {first inner n : ℕ} {old l m : List ℤ} → InPlace (λ b. after b k) F first inner n old l → InPlace (stepped k) F first inner n l m → InPlace (λ b. after b (k + 1)) F first inner n old m
+one_step k {F} {first} {inner} {n} {old} {l} t s = record {
   size = s.size ∙ t.size;
-  entries = λ u f j h q. s.entries tt f j h q ∙ stepped-after (along old (first + f) inner) (along l (first + f) inner) k n (λ i r. t.entries tt f i h r) j q;
+  entries = λ u f j h q. s.entries tt f j h q ∙ stepped_after (along old (first + f) inner) (along l (first + f) inner) k n (λ i r. t.entries tt f i h r) j q;
   kept = λ p o. s.kept p o ∙ t.kept p o;
 }
 
 -- the next step can be made
-pub step-ready : (k : ℕ) {first inner n : ℕ} {old l : List ℤ} → Ready (λ h. first) only 1 inner n old → In-place (λ b. after b k) (Under 1) first inner n old l
-    → Block 1 first inner n l × Entries-below 1 first inner n l
-step-ready k {first} {inner} {n} {old} y t = (
+pub step_ready : (k : ℕ) {first inner n : ℕ} {old l : List ℤ} → Ready (λ h. first) only 1 inner n old → InPlace (λ b. after b k) (Under 1) first inner n old l
+    → Block 1 first inner n l × EntriesBelow 1 first inner n l
+step_ready k {first} {inner} {n} {old} y t = (
   record { few = record { some = omega arith; most = omega arith }; apart = y.apart; fits = omega (arith, y.room.fits only, t.size) },
-  λ f i h q. rw (t.entries tt f i h q) (after-below n (omega (arith, y.degree)) (along old (first + f) inner) (λ x r. y.small f x h r) k i q),
+  λ f i h q. rw (t.entries tt f i h q) (after_below n (omega (arith, y.degree)) (along old (first + f) inner) (λ x r. y.small f x h r) k i q),
 )

@@ -8,12 +8,12 @@ use native.Mathlib.Omega.{arith}
 use lib.IntN.{ℤ}
 use lib.ListN.{length}
 use Rattle.whole.specs.Half.{Half, lower, upper}
-use Rattle.lines.specs.Lines.{Line, Off, Under, Worked, In-blocks, Lines-cut, half_at, halves, Room, Ready-blocks}
+use Rattle.lines.specs.Lines.{Line, Off, Under, Worked, InBlocks, LinesCut, half_at, halves, Room, ReadyBlocks}
 use Rattle.lines.specs.Inside.{Few, Ready}
-use Rattle.lines.proofs.Rows.{row-le, row_lt}
+use Rattle.lines.proofs.Rows.{row_le, row_lt}
 
-pub cut-room : {up lo size : ℕ} {l : List ℤ} → up + size ≤ lo → lo + size ≤ length l → Room (half_at up lo) size l
-cut-room {up} {lo} {size} {l} gap fits = record { fits = fit; once = one }
+pub cut_room : {up lo size : ℕ} {l : List ℤ} → up + size ≤ lo → lo + size ≤ length l → Room (half_at up lo) size l
+cut_room {up} {lo} {size} {l} gap fits = record { fits = fit; once = one }
   where
     fit : (h : Half) → half_at up lo h + size ≤ length l
     fit lower = fits
@@ -25,49 +25,49 @@ cut-room {up} {lo} {size} {l} gap fits = record { fits = fit; once = one }
     one upper lower x y a b e = absurd (omega arith)
     one upper upper x y a b e = refl
 
-pub only-room : {first size : ℕ} {l : List ℤ} → first + size ≤ length l → Room {H = Unit {0}} (λ h. first) size l
-only-room fits = record { fits = λ h. fits; once = λ h k x y a b e. refl }
+pub only_room : {first size : ℕ} {l : List ℤ} → first + size ≤ length l → Room {H = Unit {0}} (λ h. first) size l
+only_room fits = record { fits = λ h. fits; once = λ h k x y a b e. refl }
 
 -- where two places of the parts are one, so are their distances from the parts' starts
 pub one_place : {H : Type 0} {base : H → ℕ} {size : ℕ} {l : List ℤ} → Room base size l → (h k : H) (x y : ℕ) → x < size → y < size → base h + x ≡ base k + y → x ≡ y
 one_place {base} r h k x y a b e = let z : base h ≡ base k = ap base (r.once h k x y a b e) in omega arith
 
 -- a part of the room
-pub less-room : {H : Type 0} {base : H → ℕ} (d : ℕ) {size rest : ℕ} {l m : List ℤ} → d + rest ≤ size → length m ≡ length l → Room base size l → Room (λ h. base h + d) rest m
-less-room d h e r = record {
+pub less_room : {H : Type 0} {base : H → ℕ} (d : ℕ) {size rest : ℕ} {l m : List ℤ} → d + rest ≤ size → length m ≡ length l → Room base size l → Room (λ h. base h + d) rest m
+less_room d h e r = record {
   fits = λ k. omega (arith, r.fits k);
   once = λ k k' x y a b z. r.once k k' (d + x) (d + y) (omega arith) (omega arith) (omega arith);
 }
 
-pub block-fits : {H : Type 0} {base : H → ℕ} {from : H} {outer inner n o : ℕ} {l : List ℤ} → Ready-blocks base from outer inner n l → o ≤ outer → (h : H)
+pub block_fits : {H : Type 0} {base : H → ℕ} {from : H} {outer inner n o : ℕ} {l : List ℤ} → ReadyBlocks base from outer inner n l → o ≤ outer → (h : H)
     → base h + o * ((n + 1) * inner) ≤ length l
-block-fits {inner} {n} y m h = omega (arith, row-le ((n + 1) * inner) m, y.room.fits h)
+block_fits {inner} {n} y m h = omega (arith, row_le ((n + 1) * inner) m, y.room.fits h)
 
 -- a place outside the blocks is on no line of theirs
-pub off-blocks : {first inner n outer : ℕ} (p : ℕ) → (p < first) ⊎ (first + outer * ((n + 1) * inner) ≤ p) → Off (In-blocks ((n + 1) * inner) inner outer) first inner n p
-off-blocks {first} {inner} {n} p out f j b h z =
-    ⊎_elim (λ q. omega arith) (λ q. omega (arith, b.is, row_lt ((n + 1) * inner) b.which, row-le inner h, b.inside)) out
+pub off_blocks : {first inner n outer : ℕ} (p : ℕ) → (p < first) ⊎ (first + outer * ((n + 1) * inner) ≤ p) → Off (InBlocks ((n + 1) * inner) inner outer) first inner n p
+off_blocks {first} {inner} {n} p out f j b h z =
+    ⊎_elim (λ q. omega arith) (λ q. omega (arith, b.is, row_lt ((n + 1) * inner) b.which, row_le inner h, b.inside)) out
 
 -- ---- the halves' places, d further on
-half-shift : (up lo d : ℕ) → (λ h. half_at up lo h + d) ≡ half_at (up + d) (lo + d)
-half-shift up lo d = fun_ext by
+half_shift : (up lo d : ℕ) → (λ h. half_at up lo h + d) ≡ half_at (up + d) (lo + d)
+half_shift up lo d = fun_ext by
   where
     by : (h : Half) → half_at up lo h + d ≡ half_at (up + d) (lo + d) h
     by lower = refl
     by upper = refl
 
-pub half-ready : (up lo d : ℕ) {w inner n : ℕ} {l : List ℤ} → Ready (λ h. half_at up lo h + d) upper w inner n l → Ready (half_at (up + d) (lo + d)) upper w inner n l
-half-ready up lo d {w} {inner} {n} {l} y = subst (λ b. Ready b upper w inner n l) (half-shift up lo d) y
+pub half_ready : (up lo d : ℕ) {w inner n : ℕ} {l : List ℤ} → Ready (λ h. half_at up lo h + d) upper w inner n l → Ready (half_at (up + d) (lo + d)) upper w inner n l
+half_ready up lo d {w} {inner} {n} {l} y = subst (λ b. Ready b upper w inner n l) (half_shift up lo d) y
 
-pub half-worked : (up lo d : ℕ) {F : ℕ → Type 0} {inner n : ℕ} {old new : List ℤ} → Lines-cut F (up + d) (lo + d) inner n old new → Worked (halves n) (λ h. half_at up lo h + d) upper F inner n old new
-half-worked up lo d {F} {inner} {n} {old} {new} c = subst⁻¹ (λ b. Worked (halves n) b upper F inner n old new) (half-shift up lo d) c
+pub half_worked : (up lo d : ℕ) {F : ℕ → Type 0} {inner n : ℕ} {old new : List ℤ} → LinesCut F (up + d) (lo + d) inner n old new → Worked (halves n) (λ h. half_at up lo h + d) upper F inner n old new
+half_worked up lo d {F} {inner} {n} {old} {new} c = subst⁻¹ (λ b. Worked (halves n) b upper F inner n old new) (half_shift up lo d) c
 
 -- ---- at a degree that a test has found, and at a block of one line
 pub ready_at : {w up lo inner n : ℕ} {l : List ℤ} (k : ℕ) → 1 ≤ w → w ≤ 2 → n ≡ k → Ready (half_at up lo) upper w inner n l → Few w × Ready (half_at up lo) upper w inner k l
 ready_at {w} {up} {lo} {inner} {n} {l} k a b e y = (record { some = a; most = b }, subst (λ (x : ℕ). Ready (half_at up lo) upper w inner x l) e y)
 
-pub cut_at : {F : ℕ → Type 0} {old new : List ℤ} {up lo inner n : ℕ} (k : ℕ) → n ≡ k → Lines-cut F up lo inner k old new → Lines-cut F up lo inner n old new
-cut_at {F} {old} {new} {up} {lo} {inner} k e c = subst⁻¹ (λ (x : ℕ). Lines-cut F up lo inner x old new) e c
+pub cut_at : {F : ℕ → Type 0} {old new : List ℤ} {up lo inner n : ℕ} (k : ℕ) → n ≡ k → LinesCut F up lo inner k old new → LinesCut F up lo inner n old new
+cut_at {F} {old} {new} {up} {lo} {inner} k e c = subst⁻¹ (λ (x : ℕ). LinesCut F up lo inner x old new) e c
 
 pub narrow : {H : Type 0} {base : H → ℕ} {from : H} {inner n : ℕ} {l : List ℤ} → inner ≡ 1 → Ready base from inner inner n l → Ready base from 1 1 n l
 narrow {base} {from} {n} {l} e y = subst (λ (x : ℕ). Ready base from x x n l) e y
@@ -78,15 +78,15 @@ narrowed {base} {from} {n} {work} {old} {new} e c = subst⁻¹ (λ (x : ℕ). Wo
 
 -- the same of blocks
 pub blocks_at : {up lo outer inner w n : ℕ} {l : List ℤ} (k : ℕ) → inner ≡ w → n ≡ k
-    → Ready-blocks (half_at up lo) upper outer inner n l → Ready-blocks (half_at up lo) upper outer w k l
+    → ReadyBlocks (half_at up lo) upper outer inner n l → ReadyBlocks (half_at up lo) upper outer w k l
 blocks_at {up} {lo} {outer} {inner} {n} {l} k e d y =
-    subst (λ (x : ℕ). Ready-blocks (half_at up lo) upper outer x k l) e (subst (λ (x : ℕ). Ready-blocks (half_at up lo) upper outer inner x l) d y)
+    subst (λ (x : ℕ). ReadyBlocks (half_at up lo) upper outer x k l) e (subst (λ (x : ℕ). ReadyBlocks (half_at up lo) upper outer inner x l) d y)
 
-pub blocks-cut-at : {up lo outer inner w n : ℕ} {old new : List ℤ} (k : ℕ) → inner ≡ w → n ≡ k
-    → Lines-cut (In-blocks ((k + 1) * w) w outer) up lo w k old new → Lines-cut (In-blocks ((n + 1) * inner) inner outer) up lo inner n old new
-blocks-cut-at {up} {lo} {outer} {inner} {n} {old} {new} k e d c =
-    subst⁻¹ (λ (x : ℕ). Lines-cut (In-blocks ((x + 1) * inner) inner outer) up lo inner x old new) d
-    (subst⁻¹ (λ (x : ℕ). Lines-cut (In-blocks ((k + 1) * x) x outer) up lo x k old new) e c)
+pub blocks_cut_at : {up lo outer inner w n : ℕ} {old new : List ℤ} (k : ℕ) → inner ≡ w → n ≡ k
+    → LinesCut (InBlocks ((k + 1) * w) w outer) up lo w k old new → LinesCut (InBlocks ((n + 1) * inner) inner outer) up lo inner n old new
+blocks_cut_at {up} {lo} {outer} {inner} {n} {old} {new} k e d c =
+    subst⁻¹ (λ (x : ℕ). LinesCut (InBlocks ((x + 1) * inner) inner outer) up lo inner x old new) d
+    (subst⁻¹ (λ (x : ℕ). LinesCut (InBlocks ((k + 1) * x) x outer) up lo x k old new) e c)
 
 -- a count that is another
 pub at_count : {H : Type 0} {base : H → ℕ} {from : H} {inner n : ℕ} {work : H → Line → Line} {old new : List ℤ} (G : ℕ → ℕ → Type 0) {q r : ℕ} → q ≡ r

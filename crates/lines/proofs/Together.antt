@@ -7,11 +7,11 @@ use Prim.Native.Nat.{ℕ, ◌+◌, ◌*◌, ◌-◌, ◌^◌, ◌≤◌, ◌<◌
 use native.Mathlib.Omega.{arith}
 use lib.IntN.{ℤ}
 use Rattle.whole.specs.Size.{Below}
-use Rattle.whole.proofs.Parts.{by-lt}
-use Rattle.lines.specs.Lines.{at, Line, along, Under, Worked, In-blocks, Ready-blocks}
+use Rattle.whole.proofs.Parts.{by_lt}
+use Rattle.lines.specs.Lines.{at, Line, along, Under, Worked, InBlocks, ReadyBlocks}
 use Rattle.lines.specs.Inside.{Ready}
-use Rattle.lines.proofs.Rows.{row-le, row_lt, same_row}
-use Rattle.lines.proofs.Rooms.{one_place, less-room}
+use Rattle.lines.proofs.Rows.{row_le, row_lt, same_row}
+use Rattle.lines.proofs.Rooms.{one_place, less_room}
 
 -- ---- work that looks at the first n + 1 entries alone
 abbrev pub Local : {H : Type 0} → ℕ → (H → Line → Line) → Type 0
@@ -47,68 +47,68 @@ module _ {H : Type 0} {base : H → ℕ} {from : H} {inner n : ℕ} {work : H �
   no_line = none (λ f h. omega arith)
 
   module _ {old l : List ℤ} {q : ℕ} (w : ℕ) (room : q + w ≤ inner) (y : Ready base from inner inner n old) (t : Worked work base from (Under q) inner n old l) where
-    split-lines : (f : ℕ) → f < q + w → (f < q) ⊎ ((q ≤ f) × (f - q < w))
-    split-lines f h = by-lt f q (λ p. inl p) (λ p. inr (p, omega arith))
+    split_lines : (f : ℕ) → f < q + w → (f < q) ⊎ ((q ≤ f) × (f - q < w))
+    split_lines f h = by_lt f q (λ p. inl p) (λ p. inr (p, omega arith))
 
-    apart-lines : (h k : H) (f g i j : ℕ) → f < q → g < w → i ≤ n → j ≤ n → base h + f + i * inner ≡ base k + q + g + j * inner → ⊥
-    apart-lines h k f g i j a b m m' z =
-        let e : f + i * inner ≡ q + g + j * inner = one_place y.room h k (f + i * inner) (q + g + j * inner) (omega (arith, row-le inner m)) (omega (arith, row-le inner m')) (omega arith) in
+    apart_lines : (h k : H) (f g i j : ℕ) → f < q → g < w → i ≤ n → j ≤ n → base h + f + i * inner ≡ base k + q + g + j * inner → ⊥
+    apart_lines h k f g i j a b m m' z =
+        let e : f + i * inner ≡ q + g + j * inner = one_place y.room h k (f + i * inner) (q + g + j * inner) (omega (arith, row_le inner m)) (omega (arith, row_le inner m')) (omega arith) in
         let r : i ≡ j = same_row inner i j f (q + g) (omega arith) (omega arith) e in
         let r' : i * inner ≡ j * inner = ap (λ (x : ℕ). x * inner) r in omega arith
 
-    pub next-lines : Ready (λ h. base h + q) from w inner n l
-    next-lines = record {
+    pub next_lines : Ready (λ h. base h + q) from w inner n l
+    next_lines = record {
       degree = y.degree;
       apart = omega arith;
-      room = less-room q (omega arith) t.size y.room;
-      small = λ f i h k. rw (fresh w q split-lines (λ f p. omega arith) (λ g p. omega arith) apart-lines t f i h k)
+      room = less_room q (omega arith) t.size y.room;
+      small = λ f i h k. rw (fresh w q split_lines (λ f p. omega arith) (λ g p. omega arith) apart_lines t f i h k)
           (let e : base from + (q + f) + i * inner ≡ base from + q + f + i * inner = omega arith in subst (λ (x : ℕ). Below (2 ^ (62 - n)) (at old x)) e (y.small (q + f) i (omega arith) k));
     }
 
-    pub more-lines : Local n work → {m : List ℤ} → Worked work (λ h. base h + q) from (Under w) inner n l m → Worked work base from (Under (q + w)) inner n old m
-    more-lines same c = more w q split-lines (λ f p. omega arith) (λ g p. omega arith) apart-lines t same c
+    pub more_lines : Local n work → {m : List ℤ} → Worked work (λ h. base h + q) from (Under w) inner n l m → Worked work base from (Under (q + w)) inner n old m
+    more_lines same c = more w q split_lines (λ f p. omega arith) (λ g p. omega arith) apart_lines t same c
 
   -- ---- blocks: the first o are done
-  pub no_block : {size : ℕ} {l : List ℤ} → Worked work base from (In-blocks size inner 0) inner n l l
+  pub no_block : {size : ℕ} {l : List ℤ} → Worked work base from (InBlocks size inner 0) inner n l l
   no_block = none (λ f h. omega (arith, h.which))
 
-  module _ {old l : List ℤ} {outer o : ℕ} (room : o < outer) (y : Ready-blocks base from outer inner n old) (t : Worked work base from (In-blocks ((n + 1) * inner) inner o) inner n old l) where
+  module _ {old l : List ℤ} {outer o : ℕ} (room : o < outer) (y : ReadyBlocks base from outer inner n old) (t : Worked work base from (InBlocks ((n + 1) * inner) inner o) inner n old l) where
     abbrev S : ℕ
     S = (n + 1) * inner
 
     -- a place of a block is within it, and a block before the end within the whole
     inside : (q i : ℕ) → q < inner → i ≤ n → q + i * inner < S
-    inside q i h k = omega (arith, row-le inner k)
+    inside q i h k = omega (arith, row_le inner k)
 
     pub whole : o * S + S ≤ outer * S
     whole = row_lt S room
 
-    split-blocks : (f : ℕ) → In-blocks S inner (o + 1) f → In-blocks S inner o f ⊎ ((o * S ≤ f) × (f - o * S < inner))
-    split-blocks f h = by-lt h.block o
+    split_blocks : (f : ℕ) → InBlocks S inner (o + 1) f → InBlocks S inner o f ⊎ ((o * S ≤ f) × (f - o * S < inner))
+    split_blocks f h = by_lt h.block o
         (λ p. inl (record { block = h.block; line = h.line; which = p; inside = h.inside; is = h.is }))
         (λ p. let e : h.block ≡ o = omega (arith, h.which) in let z : f ≡ o * S + h.line = rw (← e) h.is in inr (omega arith, omega (arith, h.inside)))
 
-    left-blocks : (f : ℕ) → In-blocks S inner o f → In-blocks S inner (o + 1) f
-    left-blocks f h = record { block = h.block; line = h.line; which = omega (arith, h.which); inside = h.inside; is = h.is }
+    left_blocks : (f : ℕ) → InBlocks S inner o f → InBlocks S inner (o + 1) f
+    left_blocks f h = record { block = h.block; line = h.line; which = omega (arith, h.which); inside = h.inside; is = h.is }
 
-    right-blocks : (g : ℕ) → g < inner → In-blocks S inner (o + 1) (o * S + g)
-    right-blocks g h = record { block = o; line = g; which = omega arith; inside = h; is = refl }
+    right_blocks : (g : ℕ) → g < inner → InBlocks S inner (o + 1) (o * S + g)
+    right_blocks g h = record { block = o; line = g; which = omega arith; inside = h; is = refl }
 
-    apart-blocks : (h k : H) (f g i j : ℕ) → In-blocks S inner o f → g < inner → i ≤ n → j ≤ n → base h + f + i * inner ≡ base k + o * S + g + j * inner → ⊥
-    apart-blocks h k f g i j a b m m' z =
+    apart_blocks : (h k : H) (f g i j : ℕ) → InBlocks S inner o f → g < inner → i ≤ n → j ≤ n → base h + f + i * inner ≡ base k + o * S + g + j * inner → ⊥
+    apart_blocks h k f g i j a b m m' z =
         let b₁ : f + i * inner < o * S = omega (arith, a.is, row_lt S a.which, inside a.line i a.inside m) in
         let b₂ : o * S + g + j * inner < outer * S = omega (arith, whole, inside g j b m') in
         omega (arith, one_place y.room h k (f + i * inner) (o * S + g + j * inner) (omega (arith, whole)) b₂ (omega arith))
 
-    pub next-block : Ready (λ h. base h + o * S) from inner inner n l
-    next-block = record {
+    pub next_block : Ready (λ h. base h + o * S) from inner inner n l
+    next_block = record {
       degree = y.degree;
       apart = omega arith;
-      room = less-room (o * S) (omega (arith, whole)) t.size y.room;
-      small = λ f i h k. rw (fresh inner (o * S) split-blocks left-blocks right-blocks apart-blocks t f i h k)
+      room = less_room (o * S) (omega (arith, whole)) t.size y.room;
+      small = λ f i h k. rw (fresh inner (o * S) split_blocks left_blocks right_blocks apart_blocks t f i h k)
           (let e : base from + (o * S + (f + i * inner)) ≡ base from + o * S + f + i * inner = omega arith in
           subst (λ (x : ℕ). Below (2 ^ (62 - n)) (at old x)) e (y.small (o * S + (f + i * inner)) (omega (arith, whole, inside f i h k))));
     }
 
-    pub more-blocks : Local n work → {m : List ℤ} → Worked work (λ h. base h + o * S) from (Under inner) inner n l m → Worked work base from (In-blocks S inner (o + 1)) inner n old m
-    more-blocks same c = more inner (o * S) split-blocks left-blocks right-blocks apart-blocks t same c
+    pub more_blocks : Local n work → {m : List ℤ} → Worked work (λ h. base h + o * S) from (Under inner) inner n l m → Worked work base from (InBlocks S inner (o + 1)) inner n old m
+    more_blocks same c = more inner (o * S) split_blocks left_blocks right_blocks apart_blocks t same c

@@ -14,15 +14,15 @@ abbrev pub raised : Line → Line
 raised b k = pos (2 ^ k) *ℤ b k
 
 -- the sum of entries j - d to j, from entry j on; and that sum at each entry up to j
-unfoldable pub sum-down : Line → ℕ → ℕ → ℤ
-sum-down b j zero = b j
-sum-down b j (suc d) = b (j - suc d) +ℤ sum-down b j d
+unfoldable pub sum_down : Line → ℕ → ℕ → ℤ
+sum_down b j zero = b j
+sum_down b j (suc d) = b (j - suc d) +ℤ sum_down b j d
 
 abbrev pub summed : ℕ → Line → Line
-summed j b i = sum-down b j (j - i)
+summed j b i = sum_down b j (j - i)
 
 -- ---- a row: w neighbouring numbers from a on are v 0, .., v (w - 1), and the other places hold what they held
-pub record Row-put (a w : ℕ) (v : ℕ → ℤ) (old new : List ℤ) : Type 0 where
+pub record RowPut (a w : ℕ) (v : ℕ → ℤ) (old new : List ℤ) : Type 0 where
   pub size : length new ≡ length old
   pub put : (f : ℕ) → f < w → at new (a + f) ≡ v f
   pub kept : (p : ℕ) → ((f : ℕ) → f < w → p ≡ a + f → ⊥) → at new p ≡ at old p
@@ -51,11 +51,11 @@ pub record Block (w first inner n : ℕ) (l : List ℤ) : Type 0 where
   pub apart : w ≤ inner
   pub fits : first + (w + n * inner) ≤ length l
 
-abbrev pub Entries-below : (w first inner n : ℕ) → List ℤ → Type 0
-Entries-below w first inner n l = (f i : ℕ) → f < w → i ≤ n → Below (2 ^ 62) (at l (first + f + i * inner))
+abbrev pub EntriesBelow : (w first inner n : ℕ) → List ℤ → Type 0
+EntriesBelow w first inner n l = (f i : ℕ) → f < w → i ≤ n → Below (2 ^ 62) (at l (first + f + i * inner))
 
-abbrev pub Sums-below : (w first inner j : ℕ) → List ℤ → Type 0
-Sums-below w first inner j l = (f d : ℕ) → f < w → d ≤ j → Below (2 ^ 62) (sum-down (along l (first + f) inner) j d)
+abbrev pub SumsBelow : (w first inner j : ℕ) → List ℤ → Type 0
+SumsBelow w first inner j l = (f d : ℕ) → f < w → d ≤ j → Below (2 ^ 62) (sum_down (along l (first + f) inner) j d)
 
-abbrev pub Raised-below : (w first inner n : ℕ) → List ℤ → Type 0
-Raised-below w first inner n l = (f k : ℕ) → f < w → k ≤ n → Below (2 ^ 63) (pos (2 ^ k) *ℤ at l (first + f + k * inner))
+abbrev pub RaisedBelow : (w first inner n : ℕ) → List ℤ → Type 0
+RaisedBelow w first inner n l = (f k : ℕ) → f < w → k ≤ n → Below (2 ^ 63) (pos (2 ^ k) *ℤ at l (first + f + k * inner))

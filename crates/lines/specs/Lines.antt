@@ -3,7 +3,7 @@
 use Rattle.std.specs.Prelude.{◌≡◌, List, ℕ, ◌+◌, ◌*◌, ◌-◌, ◌^◌, ◌≤◌, ◌<◌, ℤ, pos, length, get_or}
 use Rattle.whole.specs.Half.{Half, lower, upper}
 use Rattle.whole.specs.Size.{Below}
-use Rattle.bernstein.specs.Numbers.{after, half-line}
+use Rattle.bernstein.specs.Numbers.{after, half_line}
 
 -- number p of the store l
 abbrev pub at : List ℤ → ℕ → ℤ
@@ -31,7 +31,7 @@ pub record Worked {H : Type 0} (work : H → Line → Line) (base : H → ℕ) (
 abbrev pub Under : ℕ → ℕ → Type 0
 Under w f = f < w
 
-pub record In-blocks (size inner o f : ℕ) : Type 0 where
+pub record InBlocks (size inner o f : ℕ) : Type 0 where
   pub block : ℕ
   pub line : ℕ
   pub which : block < o
@@ -45,21 +45,21 @@ half_at up lo lower = lo
 half_at up lo upper = up
 
 abbrev pub halves : ℕ → Half → Line → Line
-halves n h b j = half-line h n b j
+halves n h b j = half_line h n b j
 
-abbrev pub Lines-cut : (ℕ → Type 0) → (up lo inner n : ℕ) → (old new : List ℤ) → Type 0
-Lines-cut F up lo inner n old new = Worked (halves n) (half_at up lo) upper F inner n old new
+abbrev pub LinesCut : (ℕ → Type 0) → (up lo inner n : ℕ) → (old new : List ℤ) → Type 0
+LinesCut F up lo inner n old new = Worked (halves n) (half_at up lo) upper F inner n old new
 
 -- work in place: the line's own place is the only one
 abbrev pub only : Unit {0}
 only = tt
 
-abbrev pub In-place : (Line → Line) → (ℕ → Type 0) → (first inner n : ℕ) → (old new : List ℤ) → Type 0
-In-place work F first inner n old new = Worked (λ h. work) (λ h. first) only F inner n old new
+abbrev pub InPlace : (Line → Line) → (ℕ → Type 0) → (first inner n : ℕ) → (old new : List ℤ) → Type 0
+InPlace work F first inner n old new = Worked (λ h. work) (λ h. first) only F inner n old new
 
 -- all n steps along each line
-abbrev pub Lines-spread : (ℕ → Type 0) → (first inner n : ℕ) → (old new : List ℤ) → Type 0
-Lines-spread F first inner n old new = In-place (λ b. after b n) F first inner n old new
+abbrev pub LinesSpread : (ℕ → Type 0) → (first inner n : ℕ) → (old new : List ℤ) → Type 0
+LinesSpread F first inner n old new = InPlace (λ b. after b n) F first inner n old new
 
 -- ---- what it needs: room in the store, and numbers small enough (01, "A box can be cut in direction r if every number is at most 2^(62-n_r) - 1 in size")
 -- The parts of size numbers that start at base h lie in the store l, and no two of them share a place.
@@ -68,7 +68,7 @@ pub record Room {H : Type 0} (base : H → ℕ) (size : ℕ) (l : List ℤ) : Ty
   pub once : (h k : H) (x y : ℕ) → x < size → y < size → base h + x ≡ base k + y → h ≡ k
 
 -- outer blocks side by side, each of n + 1 rows of inner neighbouring numbers
-pub record Ready-blocks {H : Type 0} (base : H → ℕ) (from : H) (outer inner n : ℕ) (l : List ℤ) : Type 0 where
+pub record ReadyBlocks {H : Type 0} (base : H → ℕ) (from : H) (outer inner n : ℕ) (l : List ℤ) : Type 0 where
   pub degree : n ≤ 6
   pub some : 1 ≤ outer
   pub room : Room base (outer * ((n + 1) * inner)) l

@@ -10,8 +10,8 @@ pub record Each (P : ℤ → Type 0) (l : List ℤ) (start stop : ℕ) : Type 0 
   pub each : (i : ℕ) → start ≤ i → i < stop → P (get_or l i (pos 0))
 
 -- at most a bound in size
-abbrev pub At-most : ℕ → ℤ → Type 0
-At-most bound z = nat_abs z ≤ bound
+abbrev pub AtMost : ℕ → ℤ → Type 0
+AtMost bound z = nat_abs z ≤ bound
 
 -- the sign that the code names by a bool, and the answer for each sign
 abbrev pub sign : Bool → Sign
@@ -23,5 +23,5 @@ side above = Above
 side below = Below
 
 -- the answer names a sign where every number has it; neither sign: Mixed
-pub record Side-is (l : List ℤ) (start stop : ℕ) (r : Side) : Type 0 where
+pub record SideIs (l : List ℤ) (start stop : ℕ) (r : Side) : Type 0 where
   pub is : (s : Sign) → (r ≡ side s) ↔ Each (Has s) l start stop

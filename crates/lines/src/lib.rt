@@ -1,16 +1,18 @@
 // Work on lines of numbers in a flat store, in place: the cut of lines in two halves, and the steps that make the starting numbers.
 // A line's entries stand inner places apart. Nothing here knows of directions, boxes or polynomials.
+#![tactic(auto)]
+
 pub mod sides;
 
 ghost use Rattle.std.specs.Prelude.{◌+◌, ◌*◌, ◌<◌, ◌≤◌, ◌^◌, pos, ◌+ℤ◌, ◌*ℤ◌, length};
 ghost use Rattle.whole.specs.Half.{upper};
-ghost use Rattle.lines.specs.Lines.{at, Under, In-blocks, half_at, only, In-place, Lines-cut, Lines-spread, Ready-blocks};
-ghost use Rattle.lines.specs.Inside.{Row-put, summed, raised, stepped, Few, Row, Block, Entries-below, Sums-below, Raised-below, Ready};
+ghost use Rattle.lines.specs.Lines.{at, Under, InBlocks, half_at, only, InPlace, LinesCut, LinesSpread, ReadyBlocks};
+ghost use Rattle.lines.specs.Inside.{RowPut, summed, raised, stepped, Few, Row, Block, EntriesBelow, SumsBelow, RaisedBelow, Ready};
 
 // The w numbers at b are added to those at a. All are read before one is written, so that two are one vector.
 fn add_row(s: &mut [i64], a: usize, b: usize, w: usize)
     requires { Row (2 ^ 62) w a (λ z. z) s.old × Row (2 ^ 62) w b (λ z. z) s.old }
-    ensures { Row-put a w (λ f. at s.old (a + f) +ℤ at s.old (b + f)) s.old s.new }
+    ensures { RowPut a w (λ f. at s.old (a + f) +ℤ at s.old (b + f)) s.old s.new }
 {
     if w == 2 {
         let x = s[a] + s[b];
@@ -25,7 +27,7 @@ fn add_row(s: &mut [i64], a: usize, b: usize, w: usize)
 // The w numbers at b, times 2 ^ e, go to a.
 fn scale_row(s: &mut [i64], a: usize, b: usize, e: usize, w: usize)
     requires { (e < 62) × (a + w ≤ length s.old) × Row (2 ^ 63) w b (λ z. pos (2 ^ e) *ℤ z) s.old }
-    ensures { Row-put a w (λ f. pos (2 ^ e) *ℤ at s.old (b + f)) s.old s.new }
+    ensures { RowPut a w (λ f. pos (2 ^ e) *ℤ at s.old (b + f)) s.old s.new }
 {
     if w == 2 {
         let x = whole::scaled(s[b], e);
@@ -39,8 +41,8 @@ fn scale_row(s: &mut [i64], a: usize, b: usize, e: usize, w: usize)
 
 // Along each of the w lines at up: entry j is added to the one before it, the sum to the one before that, and so on to entry 0.
 fn sums(s: &mut [i64], up: usize, inner: usize, j: usize, w: usize)
-    requires { Block w up inner j s.old × Entries-below w up inner j s.old × Sums-below w up inner j s.old }
-    ensures { In-place (summed j) (Under w) up inner j s.old s.new }
+    requires { Block w up inner j s.old × EntriesBelow w up inner j s.old × SumsBelow w up inner j s.old }
+    ensures { InPlace (summed j) (Under w) up inner j s.old s.new }
 {
     let mut p = up + j * inner;
     let mut i = j;
@@ -54,8 +56,8 @@ fn sums(s: &mut [i64], up: usize, inner: usize, j: usize, w: usize)
 
 // Along each of the w lines at up entry i is multiplied by 2 ^ i.
 fn raise(s: &mut [i64], up: usize, inner: usize, n: usize, w: usize)
-    requires { (n ≤ 6) × Block w up inner n s.old × Raised-below w up inner n s.old }
-    ensures { In-place raised (Under w) up inner n s.old s.new }
+    requires { (n ≤ 6) × Block w up inner n s.old × RaisedBelow w up inner n s.old }
+    ensures { InPlace raised (Under w) up inner n s.old s.new }
 {
     let mut i = 1;
     while i <= n {
@@ -68,7 +70,7 @@ fn raise(s: &mut [i64], up: usize, inner: usize, n: usize, w: usize)
 // w neighbouring lines of degree n are cut, with no line beside them: stage j makes column j of the triangle in place of column j - 1.
 fn lines(s: &mut [i64], up: usize, lo: usize, inner: usize, n: usize, w: usize)
     requires { Few w × Ready (half_at up lo) upper w inner n s.old }
-    ensures { Lines-cut (Under w) up lo inner n s.old s.new }
+    ensures { LinesCut (Under w) up lo inner n s.old s.new }
 {
     let mut j = 0;
     while j <= n {
@@ -82,7 +84,7 @@ fn lines(s: &mut [i64], up: usize, lo: usize, inner: usize, n: usize, w: usize)
 // One line. The degree and the count are literals at each call, so that the compiler unrolls the loops.
 fn ones(s: &mut [i64], up: usize, lo: usize, inner: usize, n: usize)
     requires { Ready (half_at up lo) upper 1 inner n s.old }
-    ensures { Lines-cut (Under 1) up lo inner n s.old s.new }
+    ensures { LinesCut (Under 1) up lo inner n s.old s.new }
 {
     match n {
         0 => lines(s, up, lo, inner, 0, 1),
@@ -98,7 +100,7 @@ fn ones(s: &mut [i64], up: usize, lo: usize, inner: usize, n: usize)
 // Two neighbouring lines.
 fn twos(s: &mut [i64], up: usize, lo: usize, inner: usize, n: usize)
     requires { Ready (half_at up lo) upper 2 inner n s.old }
-    ensures { Lines-cut (Under 2) up lo inner n s.old s.new }
+    ensures { LinesCut (Under 2) up lo inner n s.old s.new }
 {
     match n {
         0 => lines(s, up, lo, inner, 0, 2),
@@ -114,7 +116,7 @@ fn twos(s: &mut [i64], up: usize, lo: usize, inner: usize, n: usize)
 // The lines of a block, two at a time.
 fn wide(s: &mut [i64], up: usize, lo: usize, inner: usize, n: usize)
     requires { Ready (half_at up lo) upper inner inner n s.old }
-    ensures { Lines-cut (Under inner) up lo inner n s.old s.new }
+    ensures { LinesCut (Under inner) up lo inner n s.old s.new }
 {
     let mut q = 0;
     while q + 1 < inner {
@@ -128,8 +130,8 @@ fn wide(s: &mut [i64], up: usize, lo: usize, inner: usize, n: usize)
 
 // Every line of outer blocks that stand side by side, block after block.
 fn each_block(s: &mut [i64], up: usize, lo: usize, outer: usize, inner: usize, n: usize)
-    requires { Ready-blocks (half_at up lo) upper outer inner n s.old }
-    ensures { Lines-cut (In-blocks ((n + 1) * inner) inner outer) up lo inner n s.old s.new }
+    requires { ReadyBlocks (half_at up lo) upper outer inner n s.old }
+    ensures { LinesCut (InBlocks ((n + 1) * inner) inner outer) up lo inner n s.old s.new }
 {
     let size = (n + 1) * inner;
     let mut o = 0;
@@ -147,8 +149,8 @@ fn each_block(s: &mut [i64], up: usize, lo: usize, outer: usize, inner: usize, n
 // The lines of one direction of one or more polynomials. The degree is a literal at each call, and so is the distance where the entries of a line are
 // neighbours: the compiler makes a loop of its own for each.
 pub fn blocks(s: &mut [i64], up: usize, lo: usize, outer: usize, inner: usize, n: usize)
-    requires { Ready-blocks (half_at up lo) upper outer inner n s.old }
-    ensures { Lines-cut (In-blocks ((n + 1) * inner) inner outer) up lo inner n s.old s.new }
+    requires { ReadyBlocks (half_at up lo) upper outer inner n s.old }
+    ensures { LinesCut (InBlocks ((n + 1) * inner) inner outer) up lo inner n s.old s.new }
 {
     if inner == 1 {
         match n {
@@ -175,8 +177,8 @@ pub fn blocks(s: &mut [i64], up: usize, lo: usize, outer: usize, inner: usize, n
 
 // Step k + 1 along the line at first, from its end on.
 fn step(s: &mut [i64], first: usize, inner: usize, k: usize, n: usize)
-    requires { (k ≤ n) × Block 1 first inner n s.old × Entries-below 1 first inner n s.old }
-    ensures { In-place (stepped k) (Under 1) first inner n s.old s.new }
+    requires { (k ≤ n) × Block 1 first inner n s.old × EntriesBelow 1 first inner n s.old }
+    ensures { InPlace (stepped k) (Under 1) first inner n s.old s.new }
 {
     let mut j = n;
     while k < j {
@@ -189,7 +191,7 @@ fn step(s: &mut [i64], first: usize, inner: usize, k: usize, n: usize)
 // All n steps along the line at first.
 fn spread(s: &mut [i64], first: usize, inner: usize, n: usize)
     requires { Ready (λ h. first) only 1 inner n s.old }
-    ensures { Lines-spread (Under 1) first inner n s.old s.new }
+    ensures { LinesSpread (Under 1) first inner n s.old s.new }
 {
     let mut k = 0;
     while k < n {
@@ -201,7 +203,7 @@ fn spread(s: &mut [i64], first: usize, inner: usize, n: usize)
 // The lines of a block.
 fn spread_block(s: &mut [i64], first: usize, inner: usize, n: usize)
     requires { Ready (λ h. first) only inner inner n s.old }
-    ensures { Lines-spread (Under inner) first inner n s.old s.new }
+    ensures { LinesSpread (Under inner) first inner n s.old s.new }
 {
     let mut q = 0;
     while q < inner {
@@ -212,8 +214,8 @@ fn spread_block(s: &mut [i64], first: usize, inner: usize, n: usize)
 
 // Every line of outer blocks. This runs once for a system, so it takes one line at a time.
 pub fn spread_blocks(s: &mut [i64], first: usize, outer: usize, inner: usize, n: usize)
-    requires { Ready-blocks (λ h. first) only outer inner n s.old }
-    ensures { Lines-spread (In-blocks ((n + 1) * inner) inner outer) first inner n s.old s.new }
+    requires { ReadyBlocks (λ h. first) only outer inner n s.old }
+    ensures { LinesSpread (InBlocks ((n + 1) * inner) inner outer) first inner n s.old s.new }
 {
     let size = (n + 1) * inner;
     let mut o = 0;

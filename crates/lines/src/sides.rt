@@ -1,7 +1,7 @@
 // Tests of the numbers of a store from place start to the place before stop: on one side of zero all of them, or at most a bound in size.
 ghost use Rattle.std.specs.Prelude.{◌≡◌, true, ◌↔◌, ◌+◌, ◌<◌, ◌≤◌, pos, nat_abs, ◌≤ℤ◌, length};
 ghost use Rattle.bernstein.specs.Points.{Has};
-ghost use Rattle.lines.specs.Sides.{Each, At-most, sign, Side-is};
+ghost use Rattle.lines.specs.Sides.{Each, AtMost, sign, SideIs};
 
 #[derive(Drop)]
 pub enum Side {
@@ -53,7 +53,7 @@ fn all_have(s: &[i64], start: usize, stop: usize, above: bool) -> bool
 // The first number says which sign is worth looking for.
 pub fn side_of(s: &[i64], start: usize, stop: usize) -> Side
     requires { (start < stop) × (stop ≤ length s.now) }
-    ensures { Side-is s.now start stop result }
+    ensures { SideIs s.now start stop result }
 {
     if has(s[start], true) {
         if all_have(s, start, stop, true) {
@@ -70,7 +70,7 @@ pub fn side_of(s: &[i64], start: usize, stop: usize) -> Side
 // Two tests, since -2^63 has no size that fits.
 fn within(x: i64, bound: i64) -> bool
     requires { pos 0 ≤ℤ bound }
-    ensures { (result ≡ true) ↔ At-most (nat_abs bound) x }
+    ensures { (result ≡ true) ↔ AtMost (nat_abs bound) x }
 {
     if bound < x {
         return false;
@@ -81,7 +81,7 @@ fn within(x: i64, bound: i64) -> bool
 // Two neighbours.
 fn two_within(s: &[i64], i: usize, bound: i64) -> bool
     requires { (i + 2 ≤ length s.now) × (pos 0 ≤ℤ bound) }
-    ensures { (result ≡ true) ↔ Each (At-most (nat_abs bound)) s.now i (i + 2) }
+    ensures { (result ≡ true) ↔ Each (AtMost (nat_abs bound)) s.now i (i + 2) }
 {
     if within(s[i], bound) {
         return within(s[i + 1], bound);
@@ -92,7 +92,7 @@ fn two_within(s: &[i64], i: usize, bound: i64) -> bool
 // Whether every number is at most the bound in size.
 pub fn all_within(s: &[i64], start: usize, stop: usize, bound: i64) -> bool
     requires { (stop ≤ length s.now) × (pos 0 ≤ℤ bound) }
-    ensures { (result ≡ true) ↔ Each (At-most (nat_abs bound)) s.now start stop }
+    ensures { (result ≡ true) ↔ Each (AtMost (nat_abs bound)) s.now start stop }
 {
     if stop <= start {
         return true;

@@ -7,14 +7,14 @@ use Rattle.bernstein.specs.Three.{Direction, ◌!◌}
 use Rattle.system.specs.declared.refusal.Refusal.{Refusal}
 use Rattle.boxes.specs.declared.half.Box.{Box}
 use Rattle.boxes.specs.declared.middle.Placed.{Placed}
-use Rattle.system.specs.Refusals.{at-start}
-use Rattle.boxes.specs.Boxes.{as-box, box-ok}
+use Rattle.system.specs.Refusals.{at_start}
+use Rattle.boxes.specs.Boxes.{as_box, box_ok}
 use Rattle.boxes.specs.Middles.{placed}
-use Rattle.boxes.proofs.Halves.{part-within}
+use Rattle.boxes.proofs.Halves.{part_within}
 
-pub too-deep : (b : Box) (r : Direction) → 10 < (as-box b ! r).cuts → placed b ≡ Placed.Refused (at-start Refusal.OutsideRules)
-too-deep b r deep = from (box-ok b) refl
+pub too_deep : (b : Box) (r : Direction) → 10 < (as_box b ! r).cuts → placed b ≡ Placed.Refused (at_start Refusal.OutsideRules)
+too_deep b r deep = from (box_ok b) refl
   where
-    from : (t : Bool) → box-ok b ≡ t → placed b ≡ Placed.Refused (at-start Refusal.OutsideRules)
-    from true e = absurd (omega (arith, (part-within b e r).0))
+    from : (t : Bool) → box_ok b ≡ t → placed b ≡ Placed.Refused (at_start Refusal.OutsideRules)
+    from true e = absurd (omega (arith, (part_within b e r).0))
     from false e = rw e refl

@@ -16,15 +16,15 @@ use Rattle.waiting.specs.declared.step.Due.{Due}
 use Rattle.waiting.specs.declared.step.Due.TheVariants.{Stop, Visit}
 use Rattle.waiting.specs.States.{judged}
 use Rattle.waiting.specs.Cells.{boxed}
-use Rattle.waiting.specs.Steps.{begun, due, next, nothing-kept}
+use Rattle.waiting.specs.Steps.{begun, due, next, nothing_kept}
 use Rattle.waiting.specs.Runs.{Way, went}
 use Rattle.runs.specs.declared.runs.Answer as Of-run
 use Rattle.runs.specs.declared.visits.Answer as Of-visit
 use Rattle.runs.specs.declared.visits.Answer.TheVariants.{Saw, Stopped, Refused as Stopped-at}
 use Rattle.runs.specs.Runs.{run_of}
-use Rattle.runs.specs.Visits.{visit-of}
+use Rattle.runs.specs.Visits.{visit_of}
 use Rattle.runs.specs.Lists.{listed, relisted}
-use Rattle.runs.proofs.Lists.{same-listed}
+use Rattle.runs.proofs.Lists.{same_listed}
 
 -- the store and the list at a way's end are those that were there
 abbrev pub Same : List ℕ → List ℤ → Way ℤ → Type 0
@@ -40,25 +40,25 @@ module _ (h : Head) (s : State) (xs : List ℕ) (st : List ℤ) where
   abbrev verdict : Checked
   verdict = judged h s st (listed xs)
 
-  pub run-refused : (budget : ℕ) (x : Refused) → (run_of h s budget (listed xs) st).answer ≡ Of-run.Answer.Refused x → Same xs st (run_of h s budget (listed xs) st).end
+  pub run_refused : (budget : ℕ) (x : Refused) → (run_of h s budget (listed xs) st).answer ≡ Of-run.Answer.Refused x → Same xs st (run_of h s budget (listed xs) st).end
   unfolding went
-  run-refused budget x e = from verdict refl
+  run_refused budget x e = from verdict refl
     where
       from : (v : Checked) → verdict ≡ v → Same xs st (run_of h s budget (listed xs) st).end
       from Good p = let z : ◌≡◌ {A = ℕ} 0 1 = cc in absurd (omega arith)
-      from (Stopped-by y) p = rw (p, add-one budget) (refl, same-listed xs)
+      from (Stopped-by y) p = rw (p, add-one budget) (refl, same_listed xs)
 
-  pub visit-unmade : (a : Of-visit.Answer) → (visit-of h s (listed xs) st).answer ≡ a → Unmade a → Same xs st (visit-of h s (listed xs) st).end
+  pub visit_unmade : (a : Of-visit.Answer) → (visit_of h s (listed xs) st).answer ≡ a → Unmade a → Same xs st (visit_of h s (listed xs) st).end
   unfolding next
-  visit-unmade a e u = from verdict refl
+  visit_unmade a e u = from verdict refl
     where
-      unmade : Unmade (visit-of h s (listed xs) st).answer
+      unmade : Unmade (visit_of h s (listed xs) st).answer
       unmade = rw e u
 
-      by : (d : Due) → verdict ≡ Checked.Good → due (boxed h) st (begun s 1 (length (listed xs))) ≡ d → Same xs st (visit-of h s (listed xs) st).end
-      by (Stop w) p q = rw (p, q) (refl, ap (relisted xs) (set_out (listed xs) (length (listed xs)) nothing-kept (omega arith)) ∙ same-listed xs)
+      by : (d : Due) → verdict ≡ Checked.Good → due (boxed h) st (begun s 1 (length (listed xs))) ≡ d → Same xs st (visit_of h s (listed xs) st).end
+      by (Stop w) p q = rw (p, q) (refl, ap (relisted xs) (set_out (listed xs) (length (listed xs)) nothing_kept (omega arith)) ∙ same_listed xs)
       by (Visit o) p q = absurd (rw (p, q) at unmade)
 
-      from : (v : Checked) → verdict ≡ v → Same xs st (visit-of h s (listed xs) st).end
+      from : (v : Checked) → verdict ≡ v → Same xs st (visit_of h s (listed xs) st).end
       from Good p = by (due (boxed h) st (begun s 1 (length (listed xs)))) p refl
-      from (Stopped-by x) p = rw p (refl, same-listed xs)
+      from (Stopped-by x) p = rw p (refl, same_listed xs)

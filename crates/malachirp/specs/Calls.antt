@@ -1,5 +1,5 @@
 -- What each call leaves: its code, its offset, and every place lent to it for writing, in the order of its parameters; a primed name is a place as the
--- library's own call leaves it. A refusal leaves all as it was: of the coefficients, the file and the store `reads`, `writes` and `start-store` say so
+-- library's own call leaves it. A refusal leaves all as it was: of the coefficients, the file and the store `reads`, `writes` and `start_store` say so
 -- themselves. Definitions only.
 use Rattle.std.specs.Prelude.{ℕ, List, [], ◌∷◌, ℤ, Float}
 use Rattle.system.specs.declared.head.Head.{Head}
@@ -7,10 +7,10 @@ use Rattle.system.specs.declared.head.Checked.{Checked}
 use Rattle.boxes.specs.declared.middle.Placed.{Placed}
 use Rattle.system.specs.Heads.{places, checked}
 use Rattle.boxes.specs.Middles.{placed}
-use Rattle.boxes.specs.Visits.{visit-numbers, word_number}
+use Rattle.boxes.specs.Visits.{visit_numbers, word_number}
 use Rattle.waiting.specs.declared.start.Started.{Started}
 use Rattle.waiting.specs.States.{needed}
-use Rattle.waiting.specs.Starts.{start-check, start-answer, start-store}
+use Rattle.waiting.specs.Starts.{start_check, start_answer, start_store}
 use Rattle.file.specs.declared.reading.Answer.{Answer}
 use Rattle.file.specs.Reading.{reads}
 use Rattle.writing.specs.declared.Written.{Written}
@@ -18,74 +18,74 @@ use Rattle.writing.specs.Writing.{writes}
 use Rattle.runs.specs.declared.runs.Answer as Of-run
 use Rattle.runs.specs.declared.visits.Answer as Of-visit
 use Rattle.runs.specs.Runs.{Run, run_of}
-use Rattle.runs.specs.Visits.{One, visit-of}
+use Rattle.runs.specs.Visits.{One, visit_of}
 use Rattle.runs.specs.Tables.{box_of}
 use Rattle.runs.specs.Lists.{first, listed, relisted}
-use Rattle.malachirp.specs.Codes.{head-from, head-numbers, state-from, state-numbers, middle-numbers, Left, done, refused}
+use Rattle.malachirp.specs.Codes.{head_from, head_numbers, state_from, state_numbers, middle_numbers, Left, done, refused}
 
 -- ---- the coefficients' places and the waiting store's, for a head within limits
-abbrev pub sizes-left : Head → List ℕ → Checked → Left (List ℕ)
-sizes-left h sizes Checked.Good = done (places h ∷ needed h ∷ [])
-sizes-left h sizes (Checked.Refused x) = refused x sizes
+abbrev pub sizes_left : Head → List ℕ → Checked → Left (List ℕ)
+sizes_left h sizes Checked.Good = done (places h ∷ needed h ∷ [])
+sizes_left h sizes (Checked.Refused x) = refused x sizes
 
-abbrev pub sizes-call : (head sizes : List ℕ) → Left (List ℕ)
-sizes-call head sizes = sizes-left (head-from head) sizes (checked (head-from head))
+abbrev pub sizes_call : (head sizes : List ℕ) → Left (List ℕ)
+sizes_call head sizes = sizes_left (head_from head) sizes (checked (head_from head))
 
 -- ---- reading a file
 abbrev pub read_left : (head : List ℕ) (coefficients' : List ℤ) → Answer → Left (List ℤ × List ℕ)
-read_left head coefficients' (Answer.System h) = done (coefficients', head-numbers h)
+read_left head coefficients' (Answer.System h) = done (coefficients', head_numbers h)
 read_left head coefficients' (Answer.Refused x) = refused x (coefficients', head)
 
-abbrev pub read-call : (file : List ℕ) (coefficients : List ℤ) (head : List ℕ) → Left (List ℤ × List ℕ)
-read-call file coefficients head = read_left head (reads file coefficients).1 (reads file coefficients).0
+abbrev pub read_call : (file : List ℕ) (coefficients : List ℤ) (head : List ℕ) → Left (List ℤ × List ℕ)
+read_call file coefficients head = read_left head (reads file coefficients).1 (reads file coefficients).0
 
 -- ---- writing a file
-abbrev pub write-left : (length : ℕ) (file' : List ℕ) → Written → Left (List ℕ × ℕ)
-write-left length file' (Written.Length n) = done (file', n)
-write-left length file' (Written.Refused x) = refused x (file', length)
+abbrev pub write_left : (length : ℕ) (file' : List ℕ) → Written → Left (List ℕ × ℕ)
+write_left length file' (Written.Length n) = done (file', n)
+write_left length file' (Written.Refused x) = refused x (file', length)
 
-abbrev pub write-call : (head : List ℕ) (coefficients : List ℤ) (file : List ℕ) (length : ℕ) → Left (List ℕ × ℕ)
-write-call head coefficients file length = write-left length (writes (head-from head) coefficients file).1 (writes (head-from head) coefficients file).0
+abbrev pub write_call : (head : List ℕ) (coefficients : List ℤ) (file : List ℕ) (length : ℕ) → Left (List ℕ × ℕ)
+write_call head coefficients file length = write_left length (writes (head_from head) coefficients file).1 (writes (head_from head) coefficients file).0
 
 -- ---- a start
 abbrev pub start_left : (state : List ℕ) (store' : List ℤ) → Started → Left (List ℤ × List ℕ)
-start_left state store' (Started.Begun s) = done (store', state-numbers s)
+start_left state store' (Started.Begun s) = done (store', state_numbers s)
 start_left state store' (Started.Refused x) = refused x (store', state)
 
-abbrev pub start-by : Head → (coefficients store : List ℤ) (state : List ℕ) → Checked → Left (List ℤ × List ℕ)
-start-by h coefficients store state c = start_left state (start-store h coefficients store c) (start-answer c)
+abbrev pub start_by : Head → (coefficients store : List ℤ) (state : List ℕ) → Checked → Left (List ℤ × List ℕ)
+start_by h coefficients store state c = start_left state (start_store h coefficients store c) (start_answer c)
 
-abbrev pub start-call : (head : List ℕ) (coefficients store : List ℤ) (state : List ℕ) → Left (List ℤ × List ℕ)
-start-call head coefficients store state = start-by (head-from head) coefficients store state (start-check (head-from head) coefficients store)
+abbrev pub start_call : (head : List ℕ) (coefficients store : List ℤ) (state : List ℕ) → Left (List ℤ × List ℕ)
+start_call head coefficients store state = start_by (head_from head) coefficients store state (start_check (head_from head) coefficients store)
 
 -- ---- a run
-abbrev pub run-left : (store : List ℤ) (list state : List ℕ) (word : ℕ) → (store' : List ℤ) (list' : List ℕ) → Of-run.Answer → Left (List ℤ × List ℕ × List ℕ × ℕ)
-run-left store list state word store' list' (Of-run.Answer.Stopped s) = done (store', list', state-numbers s.state, word_number s.word)
-run-left store list state word store' list' (Of-run.Answer.Refused x) = refused x (store, list, state, word)
+abbrev pub run_left : (store : List ℤ) (list state : List ℕ) (word : ℕ) → (store' : List ℤ) (list' : List ℕ) → Of-run.Answer → Left (List ℤ × List ℕ × List ℕ × ℕ)
+run_left store list state word store' list' (Of-run.Answer.Stopped s) = done (store', list', state_numbers s.state, word_number s.word)
+run_left store list state word store' list' (Of-run.Answer.Refused x) = refused x (store, list, state, word)
 
 abbrev pub run_by : (store : List ℤ) (list state : List ℕ) (word : ℕ) → Run → Left (List ℤ × List ℕ × List ℕ × ℕ)
-run_by store list state word r = run-left store list state word r.end.store (relisted list r.end.list) r.answer
+run_by store list state word r = run_left store list state word r.end.store (relisted list r.end.list) r.answer
 
 abbrev pub run_call : (head : List ℕ) (budget : ℕ) (store : List ℤ) (list state : List ℕ) (word : ℕ) → Left (List ℤ × List ℕ × List ℕ × ℕ)
-run_call head budget store list state word = run_by store list state word (run_of (head-from head) (state-from state) budget (listed list) store)
+run_call head budget store list state word = run_by store list state word (run_of (head_from head) (state_from state) budget (listed list) store)
 
 -- ---- one visit: the word is 0 where it was made; finished and full change nothing else
-abbrev pub visit-left : (store : List ℤ) (list state visit : List ℕ) (word : ℕ) → (store' : List ℤ) (list' : List ℕ) → Of-visit.Answer
+abbrev pub visit_left : (store : List ℤ) (list state visit : List ℕ) (word : ℕ) → (store' : List ℤ) (list' : List ℕ) → Of-visit.Answer
     → Left (List ℤ × List ℕ × List ℕ × List ℕ × ℕ)
-visit-left store list state visit word store' list' (Of-visit.Answer.Saw s) = done (store', list', state-numbers s.state, visit-numbers s.visit, 0)
-visit-left store list state visit word store' list' (Of-visit.Answer.Stopped w) = done (store, list, state, visit, word_number w)
-visit-left store list state visit word store' list' (Of-visit.Answer.Refused x) = refused x (store, list, state, visit, word)
+visit_left store list state visit word store' list' (Of-visit.Answer.Saw s) = done (store', list', state_numbers s.state, visit_numbers s.visit, 0)
+visit_left store list state visit word store' list' (Of-visit.Answer.Stopped w) = done (store, list, state, visit, word_number w)
+visit_left store list state visit word store' list' (Of-visit.Answer.Refused x) = refused x (store, list, state, visit, word)
 
-abbrev pub visit-by : (store : List ℤ) (list state visit : List ℕ) (word : ℕ) → One → Left (List ℤ × List ℕ × List ℕ × List ℕ × ℕ)
-visit-by store list state visit word r = visit-left store list state visit word r.end.store (relisted list r.end.list) r.answer
+abbrev pub visit_by : (store : List ℤ) (list state visit : List ℕ) (word : ℕ) → One → Left (List ℤ × List ℕ × List ℕ × List ℕ × ℕ)
+visit_by store list state visit word r = visit_left store list state visit word r.end.store (relisted list r.end.list) r.answer
 
-abbrev pub visit-call : (head : List ℕ) (store : List ℤ) (list state visit : List ℕ) (word : ℕ) → Left (List ℤ × List ℕ × List ℕ × List ℕ × ℕ)
-visit-call head store list state visit word = visit-by store list state visit word (visit-of (head-from head) (state-from state) (listed list) store)
+abbrev pub visit_call : (head : List ℕ) (store : List ℤ) (list state visit : List ℕ) (word : ℕ) → Left (List ℤ × List ℕ × List ℕ × List ℕ × ℕ)
+visit_call head store list state visit word = visit_by store list state visit word (visit_of (head_from head) (state_from state) (listed list) store)
 
 -- ---- the middles and half widths of a record
-abbrev pub middles-left : (middles : List Float) → Placed → Left (List Float)
-middles-left middles (Placed.At m) = done (middle-numbers m)
-middles-left middles (Placed.Refused x) = refused x middles
+abbrev pub middles_left : (middles : List Float) → Placed → Left (List Float)
+middles_left middles (Placed.At m) = done (middle_numbers m)
+middles_left middles (Placed.Refused x) = refused x middles
 
-abbrev pub middles-call : (kept : List ℕ) (middles : List Float) → Left (List Float)
-middles-call kept middles = middles-left middles (placed (box_of (first kept)))
+abbrev pub middles_call : (kept : List ℕ) (middles : List Float) → Left (List Float)
+middles_call kept middles = middles_left middles (placed (box_of (first kept)))

@@ -3,8 +3,8 @@ pub mod middles;
 
 ghost use Rattle.std.specs.Prelude.{◌≡◌};
 ghost use Rattle.system.specs.Refusals.{number};
-ghost use Rattle.boxes.specs.Visits.{visit-numbers};
-ghost use Rattle.malachirp.specs.Codes.{head-from, head-numbers, state-from, state-numbers};
+ghost use Rattle.boxes.specs.Visits.{visit_numbers};
+ghost use Rattle.malachirp.specs.Codes.{head_from, head_numbers, state_from, state_numbers};
 
 use boxes::visit::Visit;
 use system::head::Head;
@@ -12,7 +12,7 @@ use system::refusal::Refused;
 use waiting::state::State;
 
 pub fn head_from(b: &[u8; 8]) -> Head
-    ensures { result ≡ head-from b.now }
+    ensures { result ≡ head_from b.now }
 {
     Head {
         l: b[0],
@@ -27,13 +27,13 @@ pub fn head_from(b: &[u8; 8]) -> Head
 }
 
 pub fn head_numbers(h: Head) -> [u8; 8]
-    ensures { result ≡ head-numbers h }
+    ensures { result ≡ head_numbers h }
 {
     [h.l, h.m, h.n1, h.n2, h.n3, h.g1, h.g2, h.g3]
 }
 
 pub fn state_from(b: &[u64; 4]) -> State
-    ensures { result ≡ state-from b.now }
+    ensures { result ≡ state_from b.now }
 {
     State {
         waiting: b[0] as usize,
@@ -44,14 +44,14 @@ pub fn state_from(b: &[u64; 4]) -> State
 }
 
 pub fn state_numbers(s: State) -> [u64; 4]
-    ensures { result ≡ state-numbers s }
+    ensures { result ≡ state_numbers s }
 {
     [s.waiting as u64, s.kept as u64, s.visits, s.dropped]
 }
 
 // The box, and what became of it: which case, its value, and a drop's sign.
 pub fn visit_numbers(v: Visit) -> [u16; 9]
-    ensures { result ≡ visit-numbers v }
+    ensures { result ≡ visit_numbers v }
 {
     let b = v.at;
     let o = v.what;

@@ -1,7 +1,7 @@
 // The system file: reading it into lent places, and writing it into lent bytes.
 ghost use Rattle.std.specs.Prelude.{◌≡◌};
 ghost use Rattle.malachirp.specs.Codes.{left};
-ghost use Rattle.malachirp.specs.Calls.{read-call, write-call};
+ghost use Rattle.malachirp.specs.Calls.{read_call, write_call};
 
 use crate::codes::{head_from, head_numbers, refuse};
 use file::reading::{Answer, read};
@@ -14,7 +14,7 @@ pub extern "C" fn malachirp_read(
     head: &mut [u8; 8],
     offset: &mut u64,
 ) -> u32
-    ensures { read-call file.now coefficients.old head.old
+    ensures { read_call file.now coefficients.old head.old
         ≡ left result offset.new (coefficients.new, head.new) }
 {
     let a = read(file, coefficients);
@@ -36,7 +36,7 @@ pub extern "C" fn malachirp_write(
     length: &mut u64,
     offset: &mut u64,
 ) -> u32
-    ensures { write-call head.now coefficients.now file.old length.old
+    ensures { write_call head.now coefficients.now file.old length.old
         ≡ left result offset.new (file.new, length.new) }
 {
     let a = write(head_from(head), coefficients, file);

@@ -1,7 +1,7 @@
 // The start of a run, and how long the places are that a system needs.
 ghost use Rattle.std.specs.Prelude.{◌≡◌};
 ghost use Rattle.malachirp.specs.Codes.{left};
-ghost use Rattle.malachirp.specs.Calls.{sizes-call, start-call};
+ghost use Rattle.malachirp.specs.Calls.{sizes_call, start_call};
 
 use crate::codes::{head_from, refuse, state_numbers};
 use system::head::Checked;
@@ -10,7 +10,7 @@ use waiting::start::{Started, start};
 // The coefficients' places, m × S, and the waiting store's, (D + 1) × (6 + m × S).
 #[unsafe(no_mangle)]
 pub extern "C" fn malachirp_sizes(head: &[u8; 8], sizes: &mut [u64; 2], offset: &mut u64) -> u32
-    ensures { sizes-call head.now sizes.old ≡ left result offset.new sizes.new }
+    ensures { sizes_call head.now sizes.old ≡ left result offset.new sizes.new }
 {
     let h = head_from(head);
     let c = h.check();
@@ -34,7 +34,7 @@ pub extern "C" fn malachirp_start(
     state: &mut [u64; 4],
     offset: &mut u64,
 ) -> u32
-    ensures { start-call head.now coefficients.now store.old state.old
+    ensures { start_call head.now coefficients.now store.old state.old
         ≡ left result offset.new (store.new, state.new) }
 {
     let a = start(head_from(head), coefficients, store);

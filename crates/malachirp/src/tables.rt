@@ -1,7 +1,7 @@
 // A kept box for the table builder: its middles and half widths as doubles.
 ghost use Rattle.std.specs.Prelude.{◌≡◌};
 ghost use Rattle.malachirp.specs.Codes.{left};
-ghost use Rattle.malachirp.specs.Calls.{middles-call};
+ghost use Rattle.malachirp.specs.Calls.{middles_call};
 
 use crate::codes::middles::place;
 use crate::codes::refuse;
@@ -13,7 +13,7 @@ pub extern "C" fn malachirp_middles(
     middles: &mut [f64; 6],
     offset: &mut u64,
 ) -> u32
-    ensures { middles-call kept.now middles.old ≡ left result offset.new middles.new }
+    ensures { middles_call kept.now middles.old ≡ left result offset.new middles.new }
 {
     let p = place(kept);
     match p {

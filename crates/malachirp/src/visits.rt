@@ -1,7 +1,7 @@
 // One visit, with what became of the box.
 ghost use Rattle.std.specs.Prelude.{◌≡◌};
 ghost use Rattle.malachirp.specs.Codes.{left};
-ghost use Rattle.malachirp.specs.Calls.{visit-call};
+ghost use Rattle.malachirp.specs.Calls.{visit_call};
 
 use crate::codes::{head_from, refuse, state_from, state_numbers, visit_numbers};
 use runs::plain::visits::visit;
@@ -17,7 +17,7 @@ pub extern "C" fn malachirp_visit(
     word: &mut u32,
     offset: &mut u64,
 ) -> u32
-    ensures { visit-call head.now store.old list.old state.old seen.old word.old
+    ensures { visit_call head.now store.old list.old state.old seen.old word.old
         ≡ left result offset.new (store.new, list.new, state.new, seen.new, word.new) }
 {
     let a = visit(store, list, head_from(head), state_from(state));

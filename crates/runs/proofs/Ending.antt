@@ -13,39 +13,39 @@ use Rattle.waiting.specs.Cells.{boxed}
 use Rattle.waiting.specs.Steps.{next}
 use Rattle.waiting.specs.Runs.{Way, turned, went}
 use Rattle.runs.specs.Runs.{set_out, run_of}
-use Rattle.runs.specs.Visits.{one, visit-of}
+use Rattle.runs.specs.Visits.{one, visit_of}
 use Rattle.runs.specs.Lists.{listed}
-use Rattle.runs.specs.Ends.{Run-listed, Visit-listed}
+use Rattle.runs.specs.Ends.{RunListed, VisitListed}
 use Rattle.runs.proofs.Lists.{listed_back}
 use Rattle.runs.proofs.Opening.{verdict, opening}
 
-turned-length : (h : Head) (w : Way ℤ) → length (turned (boxed h) w).list ≡ length w.list
-turned-length h w = length-set w.list (next (boxed h) w.store w.cursor).cursor.at (next (boxed h) w.store w.cursor).cursor.kept
+turned_length : (h : Head) (w : Way ℤ) → length (turned (boxed h) w).list ≡ length w.list
+turned_length h w = length-set w.list (next (boxed h) w.store w.cursor).cursor.at (next (boxed h) w.store w.cursor).cursor.kept
 
-either-length : (n : ℕ) (v w : Way ℤ) (go : Bool) → length v.list ≡ n → length w.list ≡ n → length (cond go v w).list ≡ n
-either-length n v w true e f = e
-either-length n v w false e f = f
+either_length : (n : ℕ) (v w : Way ℤ) (go : Bool) → length v.list ≡ n → length w.list ≡ n → length (cond go v w).list ≡ n
+either_length n v w true e f = e
+either_length n v w false e f = f
 
-went-by : (h : Head) (f : ℕ) (w : Way ℤ) (go : Bool) → w.cursor.go ≡ go → went (boxed h) (suc f) w ≡ cond go (went (boxed h) f (turned (boxed h) w)) w
+went_by : (h : Head) (f : ℕ) (w : Way ℤ) (go : Bool) → w.cursor.go ≡ go → went (boxed h) (suc f) w ≡ cond go (went (boxed h) f (turned (boxed h) w)) w
 unfolding went
-went-by h f w true e = ap (λ (b : Bool). elim b [ true ↦ went (boxed h) f (turned (boxed h) w) | false ↦ w ]) e
-went-by h f w false e = ap (λ (b : Bool). elim b [ true ↦ went (boxed h) f (turned (boxed h) w) | false ↦ w ]) e
+went_by h f w true e = ap (λ (b : Bool). elim b [ true ↦ went (boxed h) f (turned (boxed h) w) | false ↦ w ]) e
+went_by h f w false e = ap (λ (b : Bool). elim b [ true ↦ went (boxed h) f (turned (boxed h) w) | false ↦ w ]) e
 
-went-length : (h : Head) (f : ℕ) (w : Way ℤ) → length (went (boxed h) f w).list ≡ length w.list
+went_length : (h : Head) (f : ℕ) (w : Way ℤ) → length (went (boxed h) f w).list ≡ length w.list
 unfolding went
-went-length h zero w = refl
-went-length h (suc f) w =
-    ap (λ (v : Way ℤ). length v.list) (went-by h f w w.cursor.go refl)
-    ∙ either-length (length w.list) (went (boxed h) f (turned (boxed h) w)) w w.cursor.go (went-length h f (turned (boxed h) w) ∙ turned-length h w) refl
+went_length h zero w = refl
+went_length h (suc f) w =
+    ap (λ (v : Way ℤ). length v.list) (went_by h f w w.cursor.go refl)
+    ∙ either_length (length w.list) (went (boxed h) f (turned (boxed h) w)) w w.cursor.go (went_length h f (turned (boxed h) w) ∙ turned_length h w) refl
 
-pub run-listed : Run-listed
-run-listed h s budget xs st = listed_back xs (run_of h s budget (listed xs) st).end.list (went-length h (budget + 1) (set_out h s budget (listed xs) st))
+pub run_listed : RunListed
+run_listed h s budget xs st = listed_back xs (run_of h s budget (listed xs) st).end.list (went_length h (budget + 1) (set_out h s budget (listed xs) st))
 
-one-length : (h : Head) (v : Checked) (list : List Kept) (st : List ℤ) (c : Cursor) (go : Bool) → length (one h v list st c go).end.list ≡ length list
-one-length h v list st c true = turned-length h (record { list = list; store = st; cursor = c })
-one-length h v list st c false = refl
+one_length : (h : Head) (v : Checked) (list : List Kept) (st : List ℤ) (c : Cursor) (go : Bool) → length (one h v list st c go).end.list ≡ length list
+one_length h v list st c true = turned_length h (record { list = list; store = st; cursor = c })
+one_length h v list st c false = refl
 
-pub visit-listed : Visit-listed
-visit-listed h s xs st =
+pub visit_listed : VisitListed
+visit_listed h s xs st =
     let c : Cursor = opening h s 1 xs st in
-    listed_back xs (visit-of h s (listed xs) st).end.list (one-length h (verdict h s xs st) (listed xs) st c c.go)
+    listed_back xs (visit_of h s (listed xs) st).end.list (one_length h (verdict h s xs st) (listed xs) st c c.go)

@@ -14,13 +14,13 @@ use Rattle.waiting.specs.declared.state.State.{State}
 use Rattle.waiting.specs.Cells.{boxed}
 use Rattle.waiting.specs.Steps.{Ready, next}
 use Rattle.waiting.specs.Runs.{Way, way, turned, went}
-use Rattle.waiting.proofs.Driving.{turns-left}
-use Rattle.waiting.proofs.Keeping.{next-fewer}
+use Rattle.waiting.proofs.Driving.{turns_left}
+use Rattle.waiting.proofs.Keeping.{next_fewer}
 use Rattle.runs.specs.Runs.{answered, set_out, run_of}
 use Rattle.runs.proofs.Turns.{Good, less, starts, turns, ends}
 use Rattle.runs.specs.Lists.{listed, relisted}
-use Rattle.runs.proofs.Lists.{length-relisted, same-listed, put_on}
-use Rattle.runs.proofs.Opening.{Opens, same-verdict, same-cursor}
+use Rattle.runs.proofs.Lists.{length_relisted, same_listed, put_on}
+use Rattle.runs.proofs.Opening.{Opens, same_verdict, same_cursor}
 
 pub record Going (h : Head) (xs : List ℕ) (m : ℕ) (end : Way ℤ) (list : List ℕ) (st : List ℤ) (c : Cursor) : Type 0 where
   pub fuel : ℕ
@@ -29,14 +29,14 @@ pub record Going (h : Head) (xs : List ℕ) (m : ℕ) (end : Way ℤ) (list : Li
   pub same : list ≡ relisted xs ks
 
 module _ {h : Head} {xs : List ℕ} {m : ℕ} {end : Way ℤ} {list : List ℕ} {st : List ℤ} {c : Cursor} (g : Going h xs m end list st c) where
-  pub going-length : length list ≡ length xs
-  going-length = ap length g.same ∙ length-relisted xs g.ks g.good.listed
+  pub going_length : length list ≡ length xs
+  going_length = ap length g.same ∙ length_relisted xs g.ks g.good.listed
 
-  pub may-step : c.go ≡ true → Ready h st c
-  may-step t = g.good.ready (subst Holds (sym t) tt)
+  pub may_step : c.go ≡ true → Ready h st c
+  may_step t = g.good.ready (subst Holds (sym t) tt)
 
-  pub fewer : c.go ≡ true → (c' : Cursor) → c' ≡ (next (boxed h) st c).cursor → turns-left c' < turns-left c
-  fewer t c' e = subst (λ (d : Cursor). turns-left d < turns-left c) (sym e) (next-fewer h st c (may-step t) t)
+  pub fewer : c.go ≡ true → (c' : Cursor) → c' ≡ (next (boxed h) st c).cursor → turns_left c' < turns_left c
+  fewer t c' e = subst (λ (d : Cursor). turns_left d < turns_left c) (sym e) (next_fewer h st c (may_step t) t)
 
   pub goes_on : c.go ≡ true → (list' : List ℕ) (st' : List ℤ) (c' : Cursor) → length st' ≡ m → c' ≡ (next (boxed h) st c).cursor → st' ≡ (next (boxed h) st c).store
       → list' ≡ relisted list (set (listed list) c'.at c'.kept) → Going h xs m end list' st' c'
@@ -58,16 +58,16 @@ module _ {h : Head} {s : State} {budget : ℕ} {xs : List ℕ} {st : List ℤ} {
   abbrev pub end : Way ℤ
   end = went (boxed h) (budget + 1) (way (listed xs) st c₀)
 
-  sets-out : way (listed xs) st c₀ ≡ set_out h s budget (listed xs) st
-  sets-out = ap (way (listed xs) st) (same-cursor o)
+  sets_out : way (listed xs) st c₀ ≡ set_out h s budget (listed xs) st
+  sets_out = ap (way (listed xs) st) (same_cursor o)
 
   pub going : length (listed xs) < 2 ^ 64 → budget < 2 ^ 32 → Going h xs (length st) end xs st c₀
   going room_fits budget-fits = record {
     fuel = budget + 1;
     ks = listed xs;
-    good = subst (λ (w : Way ℤ). Good h (length (listed xs)) (length st) (went (boxed h) (budget + 1) w) (budget + 1) w) (sym sets-out)
+    good = subst (λ (w : Way ℤ). Good h (length (listed xs)) (length st) (went (boxed h) (budget + 1) w) (budget + 1) w) (sym sets_out)
         (starts h s budget (listed xs) st room_fits budget-fits);
-    same = sym (same-listed xs);
+    same = sym (same_listed xs);
   }
 
   -- the answer, the list and the store
@@ -75,7 +75,7 @@ module _ {h : Head} {s : State} {budget : ℕ} {xs : List ℕ} {st : List ℤ} {
       → (answered v c ≡ (run_of h s budget (listed xs) st).answer)
       × ((list ≡ relisted xs (run_of h s budget (listed xs) st).end.list) × (st' ≡ (run_of h s budget (listed xs) st).end.store))
   stopped g t =
-      let e : way g.ks _ _ ≡ (run_of h s budget (listed xs) st).end = halts g t ∙ ap (went (boxed h) (budget + 1)) sets-out in (
-        (λ i. answered (same-verdict o i) (e i).cursor),
+      let e : way g.ks _ _ ≡ (run_of h s budget (listed xs) st).end = halts g t ∙ ap (went (boxed h) (budget + 1)) sets_out in (
+        (λ i. answered (same_verdict o i) (e i).cursor),
         (g.same ∙ ap (λ (w : Way ℤ). relisted xs w.list) e, ap (λ (w : Way ℤ). w.store) e),
       )

@@ -13,14 +13,14 @@ use denote.Laws.{Is}
 use denote.Slice.{Room}
 use denote.Struct.Laws as LL
 use Rattle.waiting.specs.declared.cursor.Kept.{Kept}
-use Rattle.waiting.specs.Steps.{nothing-kept}
+use Rattle.waiting.specs.Steps.{nothing_kept}
 use Rattle.waiting.specs.contracts.cursor.Kept as entry-type
 use Rattle.waiting.proofs.cursor.Kept.TheLaws as entry-laws
 use Rattle.runs.proofs.Passed.{entry, Rec}
 
 -- a record past the end fits its type
-pub nothing-fits : Is Rec nothing-kept (entry.val nothing-kept ∷ [])
-nothing-fits = LL.owes entry-type.the_type entry-laws.the_laws nothing-kept ((refl, lit< tt), ((refl, lit< tt), ((refl, lit< tt), ((refl, lit< tt), ((refl, lit< tt), ((refl, lit< tt), ((refl, lit< tt), tt)))))))
+pub nothing_fits : Is Rec nothing_kept (entry.val nothing_kept ∷ [])
+nothing_fits = LL.owes entry-type.the_type entry-laws.the_laws nothing_kept ((refl, lit< tt), ((refl, lit< tt), ((refl, lit< tt), ((refl, lit< tt), ((refl, lit< tt), ((refl, lit< tt), ((refl, lit< tt), tt)))))))
 
 -- the offset of a place within the list: a record takes 14 bytes
 pub scaled : (i n : ℕ) → i < n → Room Rec n → Fits w64 (i * 14)

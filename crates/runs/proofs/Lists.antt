@@ -7,20 +7,20 @@ use native.Mathlib.Omega.{arith}
 use lib.ListN.{length, drop, set, length-append, length-drop, length-set}
 use lib.Seq.{sets, drop-cons, set_out, drop-drop, drop_at}
 use Rattle.waiting.specs.declared.cursor.Kept.{Kept}
-use Rattle.runs.specs.Lists.{seven, first, taken, listed, numbers, relisted, Listed-back}
+use Rattle.runs.specs.Lists.{seven, first, taken, listed, numbers, relisted, ListedBack}
 
 length_taken : (n : ℕ) (xs : List ℕ) → length (taken n xs) ≡ n
 unfolding taken
 length_taken zero xs = refl
 length_taken (suc n) xs = ap suc (length_taken n (drop 7 xs))
 
-pub length-listed : (xs : List ℕ) → length (listed xs) ≡ length xs / 7
-length-listed xs = length_taken (length xs / 7) xs
+pub length_listed : (xs : List ℕ) → length (listed xs) ≡ length xs / 7
+length_listed xs = length_taken (length xs / 7) xs
 
-length-numbers : (ks : List Kept) → length (numbers ks) ≡ 7 * length ks
+length_numbers : (ks : List Kept) → length (numbers ks) ≡ 7 * length ks
 unfolding numbers
-length-numbers [] = refl
-length-numbers (k ∷ ks) = omega (arith, length-numbers ks)
+length_numbers [] = refl
+length_numbers (k ∷ ks) = omega (arith, length_numbers ks)
 
 -- ---- nothing is changed where the records stay
 whole : (xs : List ℕ) → 7 ≤ length xs → seven (first xs) ++ drop 7 xs ≡ xs
@@ -44,37 +44,37 @@ taken_back (suc n) xs p =
     ap (λ (ys : List ℕ). seven (first xs) ++ (numbers (taken n (drop 7 xs)) ++ ys)) e
     ∙ ap (λ (ys : List ℕ). seven (first xs) ++ ys) (taken_back n (drop 7 xs) (omega (arith, length-drop 7 xs))) ∙ whole xs (omega arith)
 
-pub same-listed : (xs : List ℕ) → relisted xs (listed xs) ≡ xs
-same-listed xs =
-    ap (λ (n : ℕ). numbers (listed xs) ++ drop (7 * n) xs) (length-listed xs) ∙ taken_back (length xs / 7) xs (omega arith)
+pub same_listed : (xs : List ℕ) → relisted xs (listed xs) ≡ xs
+same_listed xs =
+    ap (λ (n : ℕ). numbers (listed xs) ++ drop (7 * n) xs) (length_listed xs) ∙ taken_back (length xs / 7) xs (omega arith)
 
 -- ---- the records are those that were put there
-taken-numbers : (ks : List Kept) (ys : List ℕ) → taken (length ks) (numbers ks ++ ys) ≡ ks
+taken_numbers : (ks : List Kept) (ys : List ℕ) → taken (length ks) (numbers ks ++ ys) ≡ ks
 unfolding numbers taken
-taken-numbers [] ys = refl
-taken-numbers (k ∷ ks) ys = ap (λ (js : List Kept). k ∷ js) (taken-numbers ks ys)
+taken_numbers [] ys = refl
+taken_numbers (k ∷ ks) ys = ap (λ (js : List Kept). k ∷ js) (taken_numbers ks ys)
 
 module _ (xs : List ℕ) (ks : List Kept) (e : length ks ≡ length (listed xs)) where
-  pub length-relisted : length (relisted xs ks) ≡ length xs
-  length-relisted =
-      length-append (numbers ks) (drop (7 * length ks) xs) ∙ omega (arith, length-numbers ks, length-drop (7 * length ks) xs, e, length-listed xs)
+  pub length_relisted : length (relisted xs ks) ≡ length xs
+  length_relisted =
+      length-append (numbers ks) (drop (7 * length ks) xs) ∙ omega (arith, length_numbers ks, length-drop (7 * length ks) xs, e, length_listed xs)
 
-  pub relisted-again : (js : List Kept) → length js ≡ length ks → relisted (relisted xs ks) js ≡ relisted xs js
-  relisted-again js f =
+  pub relisted_again : (js : List Kept) → length js ≡ length ks → relisted (relisted xs ks) js ≡ relisted xs js
+  relisted_again js f =
       ap (λ (ys : List ℕ). numbers js ++ ys)
-      (drop_at (numbers ks) (drop (7 * length ks) xs) (7 * length js) (omega (arith, length-numbers ks)) ∙ ap (λ (n : ℕ). drop (7 * n) xs) (sym f))
+      (drop_at (numbers ks) (drop (7 * length ks) xs) (7 * length js) (omega (arith, length_numbers ks)) ∙ ap (λ (n : ℕ). drop (7 * n) xs) (sym f))
 
-pub listed_back : Listed-back
+pub listed_back : ListedBack
 listed_back xs ks e =
-    ap (λ (n : ℕ). taken n (relisted xs ks)) (omega (arith, length-relisted xs ks e, e, length-listed xs)) ∙ taken-numbers ks (drop (7 * length ks) xs)
+    ap (λ (n : ℕ). taken n (relisted xs ks)) (omega (arith, length_relisted xs ks e, e, length_listed xs)) ∙ taken_numbers ks (drop (7 * length ks) xs)
 
 -- ---- seven numbers are written
-sets-numbers : (ks : List Kept) (ys : List ℕ) (to : ℕ) (k : Kept) → to < length ks → sets (numbers ks ++ ys) (7 * to) (seven k) ≡ numbers (set ks to k) ++ ys
+sets_numbers : (ks : List Kept) (ys : List ℕ) (to : ℕ) (k : Kept) → to < length ks → sets (numbers ks ++ ys) (7 * to) (seven k) ≡ numbers (set ks to k) ++ ys
 unfolding numbers
-sets-numbers [] ys to k p = absurd (not-suc-le-zero p)
-sets-numbers (j ∷ ks) ys zero k p = refl
-sets-numbers (j ∷ ks) ys (suc to) k p =
-    ap (λ (i : ℕ). sets (numbers (j ∷ ks) ++ ys) i (seven k)) at ∙ ap (λ (zs : List ℕ). seven j ++ zs) (sets-numbers ks ys to k (omega arith))
+sets_numbers [] ys to k p = absurd (not-suc-le-zero p)
+sets_numbers (j ∷ ks) ys zero k p = refl
+sets_numbers (j ∷ ks) ys (suc to) k p =
+    ap (λ (i : ℕ). sets (numbers (j ∷ ks) ++ ys) i (seven k)) at ∙ ap (λ (zs : List ℕ). seven j ++ zs) (sets_numbers ks ys to k (omega arith))
   where
     at : 7 * suc to ≡ suc (suc (suc (suc (suc (suc (suc (7 * to)))))))
     at = omega arith
@@ -84,16 +84,16 @@ module _ (xs : List ℕ) (to : ℕ) (k : Kept) where
   written p =
       let ks : List Kept = listed xs in
       let at : to * 7 ≡ 7 * to = omega arith in
-      ap (λ (i : ℕ). sets xs i (seven k)) at ∙ ap (λ (zs : List ℕ). sets zs (7 * to) (seven k)) (sym (same-listed xs))
-      ∙ sets-numbers ks (drop (7 * length ks) xs) to k (omega (arith, length-listed xs))
+      ap (λ (i : ℕ). sets xs i (seven k)) at ∙ ap (λ (zs : List ℕ). sets zs (7 * to) (seven k)) (sym (same_listed xs))
+      ∙ sets_numbers ks (drop (7 * length ks) xs) to k (omega (arith, length_listed xs))
       ∙ ap (λ (n : ℕ). numbers (set ks to k) ++ drop (7 * n) xs) (sym (length-set ks to k))
 
   pub unwritten : length xs / 7 ≤ to → xs ≡ relisted xs (set (listed xs) to k)
-  unwritten p = sym (ap (relisted xs) (set_out (listed xs) to k (omega (arith, length-listed xs))) ∙ same-listed xs)
+  unwritten p = sym (ap (relisted xs) (set_out (listed xs) to k (omega (arith, length_listed xs))) ∙ same_listed xs)
 
 -- ---- a record is stored in the numbers as it is in the list
 pub put_on : (xs list list' : List ℕ) (ks : List Kept) (to : ℕ) (k : Kept) → length ks ≡ length (listed xs) → list ≡ relisted xs ks
     → list' ≡ relisted list (set (listed list) to k) → list' ≡ relisted xs (set ks to k)
 put_on xs list list' ks to k l e p =
     p ∙ ap (λ (zs : List ℕ). relisted zs (set (listed zs) to k)) e ∙ ap (λ (js : List Kept). relisted (relisted xs ks) (set js to k)) (listed_back xs ks l)
-    ∙ relisted-again xs ks l (set ks to k) (length-set ks to k)
+    ∙ relisted_again xs ks l (set ks to k) (length-set ks to k)

@@ -51,15 +51,15 @@ answer = variant answer-type.the_type answer-laws.the_laws answer-laws.the_plain
 abbrev pub made_one : Datum
 made_one = structure made-type.the_type made-laws.the_laws made-laws.the_plain made-laws.the_copy
 
-abbrev pub seen-answer : Datum
-seen-answer = variant seen-type.the_type seen-laws.the_laws seen-laws.the_plain seen-laws.the_copy tt
+abbrev pub seen_answer : Datum
+seen_answer = variant seen-type.the_type seen-laws.the_laws seen-laws.the_plain seen-laws.the_copy tt
 
-pub cursor-fits : (m : Made) → Is made_one.row m (made_one.val m ∷ []) → Is cursor.row m.cursor (cursor.val m.cursor ∷ [])
-cursor-fits m is = (LL.owed made-type.the_type made-laws.the_laws m _ is).0
+pub cursor_fits : (m : Made) → Is made_one.row m (made_one.val m ∷ []) → Is cursor.row m.cursor (cursor.val m.cursor ∷ [])
+cursor_fits m is = (LL.owed made-type.the_type made-laws.the_laws m _ is).0
 
 -- the place and the record of a cursor fit their types
-pub place-fits : (c : Cursor) → Is cursor.row c (cursor.val c ∷ []) → Is (number w64).row c.at ((number w64).val c.at ∷ [])
-place-fits c is = (LL.owed cursor-type.the_type cursor-laws.the_laws c _ is).1.1.1.1.0
+pub place_fits : (c : Cursor) → Is cursor.row c (cursor.val c ∷ []) → Is (number w64).row c.at ((number w64).val c.at ∷ [])
+place_fits c is = (LL.owed cursor-type.the_type cursor-laws.the_laws c _ is).1.1.1.1.0
 
-pub entry-fits : (c : Cursor) → Is cursor.row c (cursor.val c ∷ []) → Is entry.row c.kept (entry.val c.kept ∷ [])
-entry-fits c is = (LL.owed cursor-type.the_type cursor-laws.the_laws c _ is).1.1.1.1.1.0
+pub entry_fits : (c : Cursor) → Is cursor.row c (cursor.val c ∷ []) → Is entry.row c.kept (entry.val c.kept ∷ [])
+entry_fits c is = (LL.owed cursor-type.the_type cursor-laws.the_laws c _ is).1.1.1.1.1.0

@@ -18,10 +18,10 @@ use Rattle.waiting.specs.declared.state.State.{State}
 use Rattle.waiting.specs.declared.step.Due.{Due}
 use Rattle.waiting.specs.States.{judged}
 use Rattle.waiting.specs.Cells.{boxed}
-use Rattle.waiting.specs.Steps.{Ready, begun, due, by-due, next}
+use Rattle.waiting.specs.Steps.{Ready, begun, due, by_due, next}
 use Rattle.waiting.specs.Runs.{Way, turned, went}
-use Rattle.waiting.proofs.Keeping.{ready-next, judged-ready}
-use Rattle.waiting.proofs.Turning.{Says-due, due-says}
+use Rattle.waiting.proofs.Keeping.{ready_next, judged_ready}
+use Rattle.waiting.proofs.Turning.{SaysDue, due_says}
 use Rattle.runs.specs.Runs.{opened, set_out, run_of}
 
 pub record Good (h : Head) (n m : ℕ) (end : Way ℤ) (f : ℕ) (w : Way ℤ) : Type 0 where
@@ -41,28 +41,28 @@ unfolding went
 went_on h f w true e p = ap (λ (t : Bool). elim t [ true ↦ went (boxed h) f (turned (boxed h) w) | false ↦ w ]) e
 went_on h f w false e p = absurd p
 
-went-off : (h : Head) (f : ℕ) (w : Way ℤ) (go : Bool) → w.cursor.go ≡ go → Holds (not go) → went (boxed h) f w ≡ w
+went_off : (h : Head) (f : ℕ) (w : Way ℤ) (go : Bool) → w.cursor.go ≡ go → Holds (not go) → went (boxed h) f w ≡ w
 unfolding went
-went-off h f w true e p = absurd p
-went-off h zero w false e p = refl
-went-off h (suc f) w false e p = ap (λ (t : Bool). elim t [ true ↦ went (boxed h) f (turned (boxed h) w) | false ↦ w ]) e
+went_off h f w true e p = absurd p
+went_off h zero w false e p = refl
+went_off h (suc f) w false e p = ap (λ (t : Bool). elim t [ true ↦ went (boxed h) f (turned (boxed h) w) | false ↦ w ]) e
 
 -- a step that goes on has used a visit of the budget
-left_by : (h : Head) (st : List ℤ) (c : Cursor) (d : Due) → Says-due (boxed h) st c d → Holds (by-due (boxed h) st c d).cursor.go → (by-due (boxed h) st c d).cursor.left < c.left
+left_by : (h : Head) (st : List ℤ) (c : Cursor) (d : Due) → SaysDue (boxed h) st c d → Holds (by_due (boxed h) st c d).cursor.go → (by_due (boxed h) st c d).cursor.left < c.left
 left_by h st c (Due.Stop w) s p = absurd p
 left_by h st c (Due.Visit o) s p = omega (arith, s.budget)
 
-left-falls : (h : Head) (st : List ℤ) (c : Cursor) → Holds (next (boxed h) st c).cursor.go → (next (boxed h) st c).cursor.left < c.left
+left_falls : (h : Head) (st : List ℤ) (c : Cursor) → Holds (next (boxed h) st c).cursor.go → (next (boxed h) st c).cursor.left < c.left
 unfolding next
-left-falls h st c p = left_by h st c (due (boxed h) st c) (due-says (boxed h) st c) p
+left_falls h st c p = left_by h st c (due (boxed h) st c) (due_says (boxed h) st c) p
 
 module _ (h : Head) (n m : ℕ) (end : Way ℤ) where
   pub turns : (f : ℕ) (w : Way ℤ) → Good h n m end f w → Holds w.cursor.go → length (next (boxed h) w.store w.cursor).store ≡ m → Good h n m end (less f) (turned (boxed h) w)
   turns zero w k p e = absurd (not-suc-le-zero (k.enough p))
   turns (suc f) w k p e = record {
     same = sym (went_on h f w w.cursor.go refl p) ∙ k.same;
-    enough = λ q. fewer (left-falls h w.store w.cursor q) (k.enough p);
-    ready = λ _. ready-next h w.store w.cursor (k.ready p);
+    enough = λ q. fewer (left_falls h w.store w.cursor q) (k.enough p);
+    ready = λ _. ready_next h w.store w.cursor (k.ready p);
     listed = length-set w.list (next (boxed h) w.store w.cursor).cursor.at (next (boxed h) w.store w.cursor).cursor.kept ∙ k.listed;
     stored = e;
   }
@@ -75,17 +75,17 @@ module _ (h : Head) (n m : ℕ) (end : Way ℤ) where
   falls (suc f) w k p = lt-suc_self f
 
   pub ends : (f : ℕ) (w : Way ℤ) → Good h n m end f w → Holds (not w.cursor.go) → w ≡ end
-  ends f w k p = sym (went-off h f w w.cursor.go refl p) ∙ k.same
+  ends f w k p = sym (went_off h f w w.cursor.go refl p) ∙ k.same
 
 pub starts : (h : Head) (s : State) (budget : ℕ) (list : List Kept) (st : List ℤ) → length list < 2 ^ 64 → budget < 2 ^ 32
     → Good h (length list) (length st) (run_of h s budget list st).end (budget + 1) (set_out h s budget list st)
 starts h s budget list st room_fits budget-fits =
-    record { same = refl; enough = enough-for (judged h s st list); ready = ready_for (judged h s st list) refl; listed = refl; stored = refl }
+    record { same = refl; enough = enough_for (judged h s st list); ready = ready_for (judged h s st list) refl; listed = refl; stored = refl }
   where
-    enough-for : (v : Checked) → Holds (opened v (begun s budget (length list))).go → (opened v (begun s budget (length list))).left < budget + 1
-    enough-for Is-good p = omega arith
-    enough-for (Refused x) p = absurd p
+    enough_for : (v : Checked) → Holds (opened v (begun s budget (length list))).go → (opened v (begun s budget (length list))).left < budget + 1
+    enough_for Is-good p = omega arith
+    enough_for (Refused x) p = absurd p
 
     ready_for : (v : Checked) → judged h s st list ≡ v → Holds (opened v (begun s budget (length list))).go → Ready h st (opened v (begun s budget (length list)))
-    ready_for Is-good e p = judged-ready h s st list budget room_fits budget-fits e
+    ready_for Is-good e p = judged_ready h s st list budget room_fits budget-fits e
     ready_for (Refused x) e p = absurd p

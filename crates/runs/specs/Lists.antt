@@ -28,5 +28,5 @@ abbrev pub relisted : List ℕ → List Kept → List ℕ
 relisted xs ks = numbers ks ++ drop (7 * length ks) xs
 
 -- What stands in the numbers afterwards are those records.
-abbrev pub Listed-back : Type 0
-Listed-back = (xs : List ℕ) (ks : List Kept) → length ks ≡ length (listed xs) → listed (relisted xs ks) ≡ ks
+abbrev pub ListedBack : Type 0
+ListedBack = (xs : List ℕ) (ks : List Kept) → length ks ≡ length (listed xs) → listed (relisted xs ks) ≡ ks

@@ -10,7 +10,7 @@ use Rattle.waiting.specs.declared.cursor.Cursor.{Cursor}
 use Rattle.waiting.specs.declared.step.Made.{Made}
 use Rattle.waiting.specs.States.{judged}
 use Rattle.waiting.specs.Cells.{boxed}
-use Rattle.waiting.specs.Steps.{begun, due, next, no-visit, seen}
+use Rattle.waiting.specs.Steps.{begun, due, next, no_visit, seen}
 use Rattle.waiting.specs.Runs.{Way, way, turned}
 use Rattle.runs.specs.declared.visits.Answer.{Answer}
 use Rattle.runs.specs.declared.visits.Answer.TheVariants.{Saw, Stopped, Refused}
@@ -18,7 +18,7 @@ use Rattle.runs.specs.Runs.{opened}
 
 -- no visit yet
 abbrev pub unseen : Cursor → Made
-unseen c = record { cursor = c; visit = no-visit }
+unseen c = record { cursor = c; visit = no_visit }
 
 -- a step, with the visit that it made
 abbrev pub stepped : Head → List ℤ → Cursor → Made
@@ -38,6 +38,6 @@ abbrev pub one : Head → Checked → List Kept → List ℤ → Cursor → Bool
 one h v list st c true = record { answer = told v (stepped h st c); end = turned (boxed h) (way list st c) }
 one h v list st c false = record { answer = told v (unseen c); end = way list st c }
 
-abbrev pub visit-of : Head → State → List Kept → List ℤ → One
-visit-of h s list st =
+abbrev pub visit_of : Head → State → List Kept → List ℤ → One
+visit_of h s list st =
     one h (judged h s st list) list st (opened (judged h s st list) (begun s 1 (length list))) (opened (judged h s st list) (begun s 1 (length list))).go

@@ -1,6 +1,6 @@
 // The list of kept boxes that the caller lends: one record is stored, or read. A place past the end stores nothing and reads as a record of zeros, so a caller needs no test.
 ghost use Rattle.std.specs.Prelude.{◌≡◌, length, set, get_or};
-ghost use Rattle.waiting.specs.Steps.{nothing-kept};
+ghost use Rattle.waiting.specs.Steps.{nothing_kept};
 
 use waiting::cursor::Kept;
 
@@ -11,7 +11,7 @@ pub fn room(list: &[Kept]) -> usize
 }
 
 pub fn peek(list: &[Kept], at: usize) -> Kept
-    ensures { result ≡ get_or list.now at nothing-kept }
+    ensures { result ≡ get_or list.now at nothing_kept }
 {
     if at < list.len() {
         return list[at];

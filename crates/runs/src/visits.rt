@@ -1,6 +1,6 @@
 // One visit as the caller sees it: the covered core makes it and says which record goes where; here the record is stored.
 ghost use Rattle.std.specs.Prelude.{◌≡◌};
-ghost use Rattle.runs.specs.Visits.{unseen, told, visit-of};
+ghost use Rattle.runs.specs.Visits.{unseen, told, visit_of};
 
 use crate::list::put;
 use crate::runs::open;
@@ -60,9 +60,9 @@ pub fn tell(v: Checked, m: Made) -> Answer
 }
 
 pub fn visit(store: &mut [i64], list: &mut [Kept], h: Head, s: State) -> Answer
-    ensures { (result ≡ (visit-of h s list.old store.old).answer)
-        × ((list.new ≡ (visit-of h s list.old store.old).end.list)
-        × (store.new ≡ (visit-of h s list.old store.old).end.store)) }
+    ensures { (result ≡ (visit_of h s list.old store.old).answer)
+        × ((list.new ≡ (visit_of h s list.old store.old).end.list)
+        × (store.new ≡ (visit_of h s list.old store.old).end.store)) }
 {
     let room = list.len();
     let v = check(h, s, &*store, room);

@@ -6,8 +6,8 @@ use lib.ListN.{get_or, replicate}
 use Prim.Native.Nat.{ℕ, zero, suc, ◌+◌, ◌-◌, ◌*◌, ◌^◌}
 use Rattle.whole.specs.Half.{Half, lower, upper}
 use Rattle.search.specs.Machine.{Stop, stop, finished, spent, full, drive, trace}
-use Rattle.search.specs.Search.{Look, is-dropped, is-kept, is_cut, Entry, States, state, entry, seen, start, become, visit, turn-look, turn, turn-top, due, run, log}
-use Rattle.search.specs.Lent.{Slots, slots, Lent, memory, lent, stack, lent-become, lent-top}
+use Rattle.search.specs.Search.{Look, is_dropped, is_kept, is_cut, Entry, States, state, entry, seen, start, become, visit, turn_look, turn, turn_top, due, run, log}
+use Rattle.search.specs.Lent.{Slots, slots, Lent, memory, lent, stack, lent_become, lent_top}
 
 pub data Sign : Type 0 where
   above below : Sign
@@ -17,15 +17,15 @@ abbrev cell : ℕ → ℕ → List ℕ
 cell s k = s ∷ k ∷ []
 
 -- By how far the lower number is above zero, the upper one below, and the cuts that are left.
-abbrev line-look : (over under left : ℕ) → Look Sign (Unit {0})
-line-look (suc _) b l = is-dropped above
-line-look zero (suc _) l = is-dropped below
-line-look zero zero zero = is-kept 1
-line-look zero zero (suc _) = is_cut tt
+abbrev line_look : (over under left : ℕ) → Look Sign (Unit {0})
+line_look (suc _) b l = is_dropped above
+line_look zero (suc _) l = is_dropped below
+line_look zero zero zero = is_kept 1
+line_look zero zero (suc _) = is_cut tt
 
-abbrev line-half : Half → (s k : ℕ) → List ℕ
-line-half lower s k = cell (suc s) (2 * k)
-line-half upper s k = cell (suc s) (2 * k + 1)
+abbrev line_half : Half → (s k : ℕ) → List ℕ
+line_half lower s k = cell (suc s) (2 * k)
+line_half upper s k = cell (suc s) (2 * k + 1)
 
 -- 01, E: depth 2.
 abbrev line : Slots ℕ
@@ -36,8 +36,8 @@ line = record {
   width = 2;
   blank = 0;
   place = λ n. n;
-  look = λ n. let s = get_or n 0 0 in let k = get_or n 1 0 in line-look (2 * k - 2 ^ s) (2 ^ s - (2 * k + 2)) (2 - s);
-  half = λ h c n. line-half h (get_or n 0 0) (get_or n 1 0);
+  look = λ n. let s = get_or n 0 0 in let k = get_or n 1 0 in line_look (2 * k - 2 ^ s) (2 ^ s - (2 * k + 2)) (2 - s);
+  half = λ h c n. line_half h (get_or n 0 0) (get_or n 1 0);
 }
 
 abbrev root : States (slots line)
@@ -49,23 +49,23 @@ ran : (run (slots line) 3 10 root ≡ stop (state (cell 2 1 ∷ cell 1 1 ∷ [])
     × (run (slots line) 5 1 root ≡ stop (state (cell 2 2 ∷ cell 2 3 ∷ []) (entry (cell 2 1) 1 4 ∷ []) 5 1) spent)
     × (run (slots line) 100 100 root ≡ stop (state [] (entry (cell 2 1) 1 4 ∷ entry (cell 2 2) 1 6 ∷ []) 7 2) finished)
     × (run (slots line) 7 2 root ≡ stop (state [] (entry (cell 2 1) 1 4 ∷ entry (cell 2 2) 1 6 ∷ []) 7 2) finished)
-unfolding drive visit become turn turn-top turn-look
+unfolding drive visit become turn turn_top turn_look
 ran = (refl, refl, refl, refl, refl)
 
-logged : log (slots line) 3 10 root ≡ seen (cell 0 0) (is_cut tt) ∷ seen (cell 1 0) (is_cut tt) ∷ seen (cell 2 0) (is-dropped below) ∷ []
-unfolding trace due visit become turn turn-top turn-look
+logged : log (slots line) 3 10 root ≡ seen (cell 0 0) (is_cut tt) ∷ seen (cell 1 0) (is_cut tt) ∷ seen (cell 2 0) (is_dropped below) ∷ []
+unfolding trace due visit become turn turn_top turn_look
 logged = refl
 
 -- The same in three slots, with a list that has something in each place.
 abbrev junk : Entry (List ℕ)
 junk = entry (cell 9 9) 9 9
 
-abbrev ran-lent : (budget room : ℕ) → Stop (Lent ℕ (List ℕ))
-ran-lent b room = drive (lent line) b room (memory (replicate 6 0) (replicate room junk) 1 0 0 0)
+abbrev ran_lent : (budget room : ℕ) → Stop (Lent ℕ (List ℕ))
+ran_lent b room = drive (lent line) b room (memory (replicate 6 0) (replicate room junk) 1 0 0 0)
 
-lent-ran : (ran-lent 3 2 ≡ stop (memory (1 ∷ 1 ∷ 2 ∷ 1 ∷ 0 ∷ 0 ∷ []) (junk ∷ junk ∷ []) 2 0 3 1) spent)
-    × (ran-lent 100 1 ≡ stop (memory (2 ∷ 3 ∷ 2 ∷ 2 ∷ 0 ∷ 0 ∷ []) (entry (cell 2 1) 1 4 ∷ []) 2 1 5 1) full)
-    × (ran-lent 5 1 ≡ stop (memory (2 ∷ 3 ∷ 2 ∷ 2 ∷ 0 ∷ 0 ∷ []) (entry (cell 2 1) 1 4 ∷ []) 2 1 5 1) spent)
-    × (ran-lent 100 3 ≡ stop (memory (replicate 6 0) (entry (cell 2 1) 1 4 ∷ entry (cell 2 2) 1 6 ∷ junk ∷ []) 0 2 7 2) finished)
-unfolding drive lent-become lent-top stack turn turn-top turn-look
-lent-ran = (refl, refl, refl, refl)
+lent_ran : (ran_lent 3 2 ≡ stop (memory (1 ∷ 1 ∷ 2 ∷ 1 ∷ 0 ∷ 0 ∷ []) (junk ∷ junk ∷ []) 2 0 3 1) spent)
+    × (ran_lent 100 1 ≡ stop (memory (2 ∷ 3 ∷ 2 ∷ 2 ∷ 0 ∷ 0 ∷ []) (entry (cell 2 1) 1 4 ∷ []) 2 1 5 1) full)
+    × (ran_lent 5 1 ≡ stop (memory (2 ∷ 3 ∷ 2 ∷ 2 ∷ 0 ∷ 0 ∷ []) (entry (cell 2 1) 1 4 ∷ []) 2 1 5 1) spent)
+    × (ran_lent 100 3 ≡ stop (memory (replicate 6 0) (entry (cell 2 1) 1 4 ∷ entry (cell 2 2) 1 6 ∷ junk ∷ []) 0 2 7 2) finished)
+unfolding drive lent_become lent_top stack turn turn_top turn_look
+lent_ran = (refl, refl, refl, refl)

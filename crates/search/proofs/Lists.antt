@@ -18,33 +18,33 @@ module _ {A : Type 0} (P : A → Type 0) where
   any_snoc (y ∷ l) x (inl (inr a)) = inr (any_snoc l x (inl a))
   any_snoc (y ∷ l) x (inr p) = inr (any_snoc l x (inr p))
 
-  pub any-map : (Q : A → Type 0) → ((x : A) → P x → Q x) → (l : List A) → Any P l → Any Q l
-  any-map Q f (x ∷ l) (inl p) = inl (f x p)
-  any-map Q f (x ∷ l) (inr a) = inr (any-map Q f l a)
+  pub any_map : (Q : A → Type 0) → ((x : A) → P x → Q x) → (l : List A) → Any P l → Any Q l
+  any_map Q f (x ∷ l) (inl p) = inl (f x p)
+  any_map Q f (x ∷ l) (inr a) = inr (any_map Q f l a)
 
   -- Each member is related to some member, if to itself.
-  pub all-self : (R : A → A → Type 0) → ((x : A) → R x x) → (l : List A) → ((x : A) → Any (R x) l → P x) → All P l
-  all-self R r [] f = tt
-  all-self R r (x ∷ l) f = (f x (inl (r x)), all-self R r l (λ y a. f y (inr a)))
+  pub all_self : (R : A → A → Type 0) → ((x : A) → R x x) → (l : List A) → ((x : A) → Any (R x) l → P x) → All P l
+  all_self R r [] f = tt
+  all_self R r (x ∷ l) f = (f x (inl (r x)), all_self R r l (λ y a. f y (inr a)))
 
-pub sum-snoc : {A : Type 0} (f : A → ℕ) (l : List A) (x : A) → sum f (l ++ (x ∷ [])) ≡ sum f l + f x
-sum-snoc f [] x = omega arith
-sum-snoc f (y ∷ l) x = omega (arith, sum-snoc f l x)
+pub sum_snoc : {A : Type 0} (f : A → ℕ) (l : List A) (x : A) → sum f (l ++ (x ∷ [])) ≡ sum f l + f x
+sum_snoc f [] x = omega arith
+sum_snoc f (y ∷ l) x = omega (arith, sum_snoc f l x)
 
 module _ {A B : Type 0} (R : A → B → Type 0) where
-  pub both-length : (l : List A) (m : List B) → Both R l m → length l ≡ length m
-  both-length [] [] b = refl
-  both-length (x ∷ l) (y ∷ m) b = ap suc (both-length l m b.1)
+  pub both_length : (l : List A) (m : List B) → Both R l m → length l ≡ length m
+  both_length [] [] b = refl
+  both_length (x ∷ l) (y ∷ m) b = ap suc (both_length l m b.1)
 
-  pub both-append : (l : List A) (m : List B) (l' : List A) (m' : List B) → Both R l m → Both R l' m' → Both R (l ++ l') (m ++ m')
-  both-append [] [] l' m' b c = c
-  both-append (x ∷ l) (y ∷ m) l' m' b c = (b.0, both-append l m l' m' b.1 c)
+  pub both_append : (l : List A) (m : List B) (l' : List A) (m' : List B) → Both R l m → Both R l' m' → Both R (l ++ l') (m ++ m')
+  both_append [] [] l' m' b c = c
+  both_append (x ∷ l) (y ∷ m) l' m' b c = (b.0, both_append l m l' m' b.1 c)
 
 module _ {A : Type 0} (R : A → A → Type 0) where
-  pub both-path : (f : (x y : A) → R x y → x ≡ y) (l m : List A) → Both R l m → l ≡ m
-  both-path f [] [] b = refl
-  both-path f (x ∷ l) (y ∷ m) b = cc (f x y b.0, both-path f l m b.1)
+  pub both_path : (f : (x y : A) → R x y → x ≡ y) (l m : List A) → Both R l m → l ≡ m
+  both_path f [] [] b = refl
+  both_path f (x ∷ l) (y ∷ m) b = cc (f x y b.0, both_path f l m b.1)
 
-  pub both-self : (r : (x : A) → R x x) (l : List A) → Both R l l
-  both-self r [] = tt
-  both-self r (x ∷ l) = (r x, both-self r l)
+  pub both_self : (r : (x : A) → R x x) (l : List A) → Both R l l
+  both_self r [] = tt
+  both_self r (x ∷ l) = (r x, both_self r l)

@@ -9,61 +9,61 @@ use native.Mathlib.Omega.{arith}
 use Rattle.search.specs.Lent.{put, slot, stack}
 
 module _ {A : Type 0} (at : ℕ) (x st : List A) (fits : at + length x ≤ length st) where
-  take-length-at : length (take at st) ≡ at
-  take-length-at = simp length-take (omega arith)
+  take_length_at : length (take at st) ≡ at
+  take_length_at = simp length-take (omega arith)
 
-  pub put-length : length (put at x st) ≡ length st
-  put-length = simp (length-append, length-take, length-drop) (omega arith)
+  pub put_length : length (put at x st) ≡ length st
+  put_length = simp (length-append, length-take, length-drop) (omega arith)
 
   pub take_put : take at (put at x st) ≡ take at st
-  take_put = take_at (take at st) (x ++ drop (at + length x) st) at take-length-at
+  take_put = take_at (take at st) (x ++ drop (at + length x) st) at take_length_at
 
-  pub put-there : take (length x) (drop at (put at x st)) ≡ x
-  put-there = rw (drop_at (take at st) (x ++ drop (at + length x) st) at take-length-at) (take_at x (drop (at + length x) st) (length x) refl)
+  pub put_there : take (length x) (drop at (put at x st)) ≡ x
+  put_there = rw (drop_at (take at st) (x ++ drop (at + length x) st) at take_length_at) (take_at x (drop (at + length x) st) (length x) refl)
 
 module _ {A : Type 0} (w : ℕ) where
-  pub stack-suc : (c : ℕ) (st : List A) → stack w (suc c) st ≡ slot w c st ∷ stack w c st
+  pub stack_suc : (c : ℕ) (st : List A) → stack w (suc c) st ≡ slot w c st ∷ stack w c st
   unfolding stack
-  stack-suc c st = refl
+  stack_suc c st = refl
 
-  pub stack-length : (c : ℕ) (st : List A) → length (stack w c st) ≡ c
+  pub stack_length : (c : ℕ) (st : List A) → length (stack w c st) ≡ c
   unfolding stack
-  stack-length zero st = refl
-  stack-length (suc c) st = ap suc (stack-length c st)
+  stack_length zero st = refl
+  stack_length (suc c) st = ap suc (stack_length c st)
 
   -- Equal numbers below slot c + 1 are equal numbers below slot c, and in it.
-  pub below-take : (c : ℕ) (st st' : List A) → take (suc c * w) st ≡ take (suc c * w) st' → take (c * w) st ≡ take (c * w) st'
-  below-take c st st' h =
+  pub below_take : (c : ℕ) (st st' : List A) → take (suc c * w) st ≡ take (suc c * w) st' → take (c * w) st ≡ take (c * w) st'
+  below_take c st st' h =
       let le : c * w ≤ suc c * w = omega arith in
       sym (take-take (c * w) (suc c * w) st le) ∙ ap (take (c * w)) h ∙ take-take (c * w) (suc c * w) st' le
 
-  pub slot-take : (c : ℕ) (st st' : List A) → take (suc c * w) st ≡ take (suc c * w) st' → slot w c st ≡ slot w c st'
-  slot-take c st st' h =
+  pub slot_take : (c : ℕ) (st st' : List A) → take (suc c * w) st ≡ take (suc c * w) st' → slot w c st ≡ slot w c st'
+  slot_take c st st' h =
       append_cancel_left (take (c * w) st) (slot w c st) (slot w c st')
-      (sym (take-add (c * w) w st) ∙ rw suc-mul at h ∙ take-add (c * w) w st' ∙ ap (λ (p : List A). p ++ slot w c st') (sym (below-take c st st' h)))
+      (sym (take-add (c * w) w st) ∙ rw suc-mul at h ∙ take-add (c * w) w st' ∙ ap (λ (p : List A). p ++ slot w c st') (sym (below_take c st st' h)))
 
   -- What is written above slot c changes no cell below it.
-  pub stack-frame : (c : ℕ) (st st' : List A) → take (c * w) st ≡ take (c * w) st' → stack w c st ≡ stack w c st'
+  pub stack_frame : (c : ℕ) (st st' : List A) → take (c * w) st ≡ take (c * w) st' → stack w c st ≡ stack w c st'
   unfolding stack
-  stack-frame zero st st' h = refl
-  stack-frame (suc c) st st' h = cc (slot-take c st st' h, stack-frame c st st' (below-take c st st' h))
+  stack_frame zero st st' h = refl
+  stack_frame (suc c) st st' h = cc (slot_take c st st' h, stack_frame c st st' (below_take c st st' h))
 
 -- A slot written: the cells below stay, the slot holds what was written.
 module _ {A : Type 0} (w c : ℕ) (x st : List A) (e : length x ≡ w) (fits : suc c * w ≤ length st) where
-  room-there : c * w + length x ≤ length st
-  room-there = omega arith
+  room_there : c * w + length x ≤ length st
+  room_there = omega arith
 
-  pub slot-length : length (put (c * w) x st) ≡ length st
-  slot-length = put-length (c * w) x st room-there
+  pub slot_length : length (put (c * w) x st) ≡ length st
+  slot_length = put_length (c * w) x st room_there
 
-  pub slot-below : take (c * w) (put (c * w) x st) ≡ take (c * w) st
-  slot-below = take_put (c * w) x st room-there
+  pub slot_below : take (c * w) (put (c * w) x st) ≡ take (c * w) st
+  slot_below = take_put (c * w) x st room_there
 
-  pub slot-there : slot w c (put (c * w) x st) ≡ x
-  slot-there = subst (λ (i : ℕ). take i (drop (c * w) (put (c * w) x st)) ≡ x) e (put-there (c * w) x st room-there)
+  pub slot_there : slot w c (put (c * w) x st) ≡ x
+  slot_there = subst (λ (i : ℕ). take i (drop (c * w) (put (c * w) x st)) ≡ x) e (put_there (c * w) x st room_there)
 
-  pub stack-below : stack w c (put (c * w) x st) ≡ stack w c st
-  stack-below = stack-frame w c (put (c * w) x st) st slot-below
+  pub stack_below : stack w c (put (c * w) x st) ≡ stack w c st
+  stack_below = stack_frame w c (put (c * w) x st) st slot_below
 
-  pub stack-there : stack w (suc c) (put (c * w) x st) ≡ x ∷ stack w c st
-  stack-there = stack-suc w c (put (c * w) x st) ∙ cc (slot-there, stack-below)
+  pub stack_there : stack w (suc c) (put (c * w) x st) ≡ x ∷ stack w c st
+  stack_there = stack_suc w c (put (c * w) x st) ∙ cc (slot_there, stack_below)

@@ -3,13 +3,13 @@
 use Rattle.std.specs.Prelude.{◌≡◌, List, [], ◌∷◌, length, ℕ, suc, ◌+◌, ◌-◌, ◌*◌, ◌^◌, ◌≤◌, ◌<◌}
 use Rattle.search.specs.Lists.{sum}
 use Rattle.search.specs.Machine.{finished}
-use Rattle.search.specs.Search.{Look, is-dropped, is-kept, is_cut, Search, Entry, States, Log, start, run, log}
+use Rattle.search.specs.Search.{Look, is_dropped, is_kept, is_cut, Search, Entry, States, Log, start, run, log}
 use Rattle.search.specs.Claims.{AtCut}
 
 -- One of three numbers, by what became of a cell.
 abbrev pub by_kind : {Drop Cut : Type 0} → (drop keep cut : ℕ) → Look Drop Cut → ℕ
-by_kind a b c (is-dropped _) = a
-by_kind a b c (is-kept _) = b
+by_kind a b c (is_dropped _) = a
+by_kind a b c (is_kept _) = b
 by_kind a b c (is_cut _) = c
 
 -- Over a log: the sum of one of three numbers for each visit.
@@ -34,12 +34,12 @@ pub record Counted (S : Search) (s : States S) (h : Log S) (t : States S) : Type
   pub waiting : length t.waiting + drops S h + keeps S h ≡ length s.waiting + cuts S h
 
 -- At every stop the counts are those of the visits made. From a start: visits = drops + keeps + cuts, and waiting + drops + keeps = cuts + 1.
-abbrev pub Counts-add-up : Type 1
-Counts-add-up = (S : Search) (budget room : ℕ) (s : States S) → Counted S s (log S budget room s) (run S budget room s).state
+abbrev pub CountsAddUp : Type 1
+CountsAddUp = (S : Search) (budget room : ℕ) (s : States S) → Counted S s (log S budget room s) (run S budget room s).state
 
 -- For a fresh start that finishes: visits are twice the cuts plus one, and drops and keeps together are the cuts plus one.
-abbrev pub Finished-counts : Type 1
-Finished-counts = (S : Search) (root : S.Node) (budget room : ℕ) → (run S budget room (start S root)).answer ≡ finished
+abbrev pub FinishedCounts : Type 1
+FinishedCounts = (S : Search) (root : S.Node) (budget room : ℕ) → (run S budget room (start S root)).answer ≡ finished
     → let h : Log S = log S budget room (start S root) in
     ((run S budget room (start S root)).state.visits ≡ cuts S h * 2 + 1) × (drops S h + keeps S h ≡ cuts S h + 1)
 
@@ -48,8 +48,8 @@ abbrev pub Measured : (S : Search) → (S.Node → ℕ) → Type 0
 Measured S left = AtCut S (λ n m. left n ≡ suc (left m))
 
 -- A budget of 2 ^ (left + 1) - 1 and a list of 2 ^ left places always end finished.
-abbrev pub Always-finishes : Type 1
-Always-finishes = (S : Search) (left : S.Node → ℕ) → Measured S left → (root : S.Node) (budget room : ℕ)
+abbrev pub AlwaysFinishes : Type 1
+AlwaysFinishes = (S : Search) (left : S.Node → ℕ) → Measured S left → (root : S.Node) (budget room : ℕ)
     → 2 ^ suc (left root) - 1 ≤ budget → 2 ^ left root ≤ room → (run S budget room (start S root)).answer ≡ finished
 
 -- The volume of a cell, in units of the smallest; and the volume that visits settled, by dropping and by keeping.
@@ -62,8 +62,8 @@ module _ (S : Search) (left : S.Node → ℕ) where
 
 -- At every stop the dropped and kept volumes, summed over the visits made, and that of the waiting cells come to what waited before. From a fresh start
 -- that is the root's, 2 ^ left.
-abbrev pub Volumes-add-up : Type 1
-Volumes-add-up = (S : Search) (left : S.Node → ℕ) → Measured S left → (budget room : ℕ) (s : States S)
+abbrev pub VolumesAddUp : Type 1
+VolumesAddUp = (S : Search) (left : S.Node → ℕ) → Measured S left → (budget room : ℕ) (s : States S)
     → settled S left (log S budget room s) + sum (volume S left) (run S budget room s).state.waiting ≡ sum (volume S left) s.waiting
 
 -- The visit numbers of `k` rise strictly, from above `low`, and none passes `high`.
@@ -72,6 +72,6 @@ Rising low [] high = low ≤ high
 Rising low (e ∷ k) high = (low < e.visit) × Rising e.visit k high
 
 -- Along the kept list the visit numbers rise strictly, and none passes the visits made.
-abbrev pub Visit-numbers-rise : Type 1
-Visit-numbers-rise = (S : Search) (budget room : ℕ) (s : States S) → Rising 0 s.kept s.visits
+abbrev pub VisitNumbersRise : Type 1
+VisitNumbersRise = (S : Search) (budget room : ℕ) (s : States S) → Rising 0 s.kept s.visits
     → Rising 0 (run S budget room s).state.kept (run S budget room s).state.visits

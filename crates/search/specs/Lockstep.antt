@@ -4,13 +4,13 @@ use Rattle.std.specs.Prelude.{◌≡◌, ℕ}
 use Rattle.whole.specs.Half.{Half}
 use Rattle.search.specs.Lists.{Both}
 use Rattle.search.specs.Machine.{BothStop}
-use Rattle.search.specs.Search.{Look, is-dropped, is-kept, is_cut, Search, Entry, States, Visit, run, log}
+use Rattle.search.specs.Search.{Look, is_dropped, is_kept, is_cut, Search, Entry, States, Visit, run, log}
 
 -- The same is said of two cells; by what they are dropped or cut is related.
 pub data Alike {D D' C C' : Type 0} (Drops : D → D' → Type 0) (Cuts : C → C' → Type 0) : Look D C → Look D' C' → Type 0 where
-  both-dropped : {x : D} {y : D'} → Drops x y → Alike Drops Cuts (is-dropped x) (is-dropped y)
-  both-kept : {mark : ℕ} → Alike Drops Cuts (is-kept mark) (is-kept mark)
-  both-cut : {c : C} {d : C'} → Cuts c d → Alike Drops Cuts (is_cut c) (is_cut d)
+  both_dropped : {x : D} {y : D'} → Drops x y → Alike Drops Cuts (is_dropped x) (is_dropped y)
+  both_kept : {mark : ℕ} → Alike Drops Cuts (is_kept mark) (is_kept mark)
+  both_cut : {c : C} {d : C'} → Cuts c d → Alike Drops Cuts (is_cut c) (is_cut d)
 
 -- What is related between the two searches: cells, places, and by what a cell is dropped or cut.
 pub record Link (S T : Search) : Type 1 where
@@ -41,6 +41,6 @@ pub record InStep (S T : Search) (L : Link S T) (s : States S) (t : States T) : 
   pub dropped : s.dropped ≡ t.dropped
 
 -- Searches whose cells look alike run in step: the same answer and counts, related lists, and logs related visit by visit.
-abbrev pub Alike-run-alike : Type 1
-Alike-run-alike = (S T : Search) (L : Link S T) → Mimics S T L → (budget room : ℕ) (s : States S) (t : States T) → InStep S T L s t
+abbrev pub AlikeRunAlike : Type 1
+AlikeRunAlike = (S T : Search) (L : Link S T) → Mimics S T L → (budget room : ℕ) (s : States S) (t : States T) → InStep S T L s t
     → BothStop (InStep S T L) (SameVisit S T L) (run S budget room s) (log S budget room s) (run T budget room t) (log T budget room t)

@@ -6,8 +6,8 @@ use Rattle.search.specs.Machine.{Machine, Turn, nothing, no_room, go, Stop, driv
 
 -- 01, One visit: a cell is dropped, kept with a mark, or cut. `Drop` and `Cut` say by what.
 pub data Look (Drop Cut : Type 0) : Type 0 where
-  is-dropped : Drop → Look Drop Cut
-  is-kept : ℕ → Look Drop Cut
+  is_dropped : Drop → Look Drop Cut
+  is_kept : ℕ → Look Drop Cut
   is_cut : Cut → Look Drop Cut
 
 pub record Search : Type 1 where
@@ -42,8 +42,8 @@ abbrev pub state : {Node Place : Type 0} → List Node → List (Entry Place) �
 state w k v d = record { waiting = w; kept = k; visits = v; dropped = d }
 
 -- The same state with `n` waiting over all others.
-abbrev pub with-top : {Node Place : Type 0} → Node → State Node Place → State Node Place
-with-top n s = state (n ∷ s.waiting) s.kept s.visits s.dropped
+abbrev pub with_top : {Node Place : Type 0} → Node → State Node Place → State Node Place
+with_top n s = state (n ∷ s.waiting) s.kept s.visits s.dropped
 
 abbrev pub States : Search → Type 0
 States S = State S.Node S.Place
@@ -54,8 +54,8 @@ start S root = state (root ∷ []) [] 0 0
 
 -- 01, One visit. The cell `n`, taken from the top of what waits in `s`, becomes what the rules say. The upper half waits under the lower half.
 unfoldable pub become : (S : Search) → S.Node → States S → Look S.Drop S.Cut → States S
-become S n s (is-dropped _) = state s.waiting s.kept (suc s.visits) (suc s.dropped)
-become S n s (is-kept mark) = state s.waiting (s.kept ++ (entry (S.place n) mark (suc s.visits) ∷ [])) (suc s.visits) s.dropped
+become S n s (is_dropped _) = state s.waiting s.kept (suc s.visits) (suc s.dropped)
+become S n s (is_kept mark) = state s.waiting (s.kept ++ (entry (S.place n) mark (suc s.visits) ∷ [])) (suc s.visits) s.dropped
 become S n s (is_cut c) = state (S.half lower c n ∷ S.half upper c n ∷ s.waiting) s.kept (suc s.visits) s.dropped
 
 -- One visit. Where nothing waits it changes nothing.
@@ -63,19 +63,19 @@ unfoldable pub visit : (S : Search) → States S → States S
 visit S s = elim s.waiting [ [] ↦ s | n ∷ rest ↦ become S n (state rest s.kept s.visits s.dropped) (S.look n) ]
 
 -- 01, Runs: a visit is made unless the top would be kept and the list has no room. `spare`: the places of the list that are free.
-unfoldable pub turn-look : {Drop Cut : Type 0} → (spare : ℕ) → Look Drop Cut → Turn
-turn-look spare (is-dropped _) = go
-turn-look zero (is-kept _) = no_room
-turn-look (suc _) (is-kept _) = go
-turn-look spare (is_cut _) = go
+unfoldable pub turn_look : {Drop Cut : Type 0} → (spare : ℕ) → Look Drop Cut → Turn
+turn_look spare (is_dropped _) = go
+turn_look zero (is_kept _) = no_room
+turn_look (suc _) (is_kept _) = go
+turn_look spare (is_cut _) = go
 
-unfoldable pub turn-top : (S : Search) (spare : ℕ) → List S.Node → Turn
-turn-top S spare [] = nothing
-turn-top S spare (n ∷ _) = turn-look spare (S.look n)
+unfoldable pub turn_top : (S : Search) (spare : ℕ) → List S.Node → Turn
+turn_top S spare [] = nothing
+turn_top S spare (n ∷ _) = turn_look spare (S.look n)
 
 -- What the rules say before a visit, the budget aside.
 unfoldable pub turn : (S : Search) (room : ℕ) → States S → Turn
-turn S room s = turn-top S (room - length s.kept) s.waiting
+turn S room s = turn_top S (room - length s.kept) s.waiting
 
 -- One visit of the log: the cell, and what became of it.
 pub record Seen (Node Drop Cut : Type 0) : Type 0 where

@@ -8,22 +8,22 @@ use lib.IntN.{ℤ}
 use lib.ListN.{length, length-append}
 use Rattle.whole.specs.Half.{Half}
 use Rattle.bernstein.specs.Three.{Direction}
-use Rattle.bernstein.specs.Numbers.{Patch, Index, unit, half-box}
+use Rattle.bernstein.specs.Numbers.{Patch, Index, unit, half_box}
 use Rattle.bernstein.specs.Frames.{Lawful}
 use Rattle.system.specs.declared.head.Head.{Head}
 use Rattle.system.specs.Heads.{frame, places, width}
-use Rattle.slots.specs.Slots.{at, build, in-turn, polynomial, numbers, box-numbers, box_in, half-numbers, half-slot, start-numbers, unit-slot}
+use Rattle.slots.specs.Slots.{at, build, in_turn, polynomial, numbers, box_numbers, box_in, half_numbers, half_slot, start_numbers, unit_slot}
 
-pub build-length : (n : ℕ) (f : ℕ → ℤ) → length (build n f) ≡ n
+pub build_length : (n : ℕ) (f : ℕ → ℤ) → length (build n f) ≡ n
 unfolding build
-build-length zero f = refl
-build-length (suc n) f = ap suc (build-length n (λ i. f (suc i)))
+build_length zero f = refl
+build_length (suc n) f = ap suc (build_length n (λ i. f (suc i)))
 
-pub build-at : (n : ℕ) (f : ℕ → ℤ) (i : ℕ) → i < n → at (build n f) i ≡ f i
+pub build_at : (n : ℕ) (f : ℕ → ℤ) (i : ℕ) → i < n → at (build n f) i ≡ f i
 unfolding build
-build-at zero f i h = absurd (NatL.not-suc-le-zero h)
-build-at (suc n) f zero h = refl
-build-at (suc n) f (suc i) h = build-at n (λ j. f (suc j)) i (omega arith)
+build_at zero f i h = absurd (NatL.not-suc-le-zero h)
+build_at (suc n) f zero h = refl
+build_at (suc n) f (suc i) h = build_at n (λ j. f (suc j)) i (omega arith)
 
 -- ---- place y of row x, in rows of s places
 row_lt : (x m s y : ℕ) → x < m → y < s → x * s + y < m * s
@@ -35,31 +35,31 @@ row_of s x y h = let some : 0 < s = omega arith in NatL.mul-add-div_right some x
 rest_of : (s x y : ℕ) → y < s → (x * s + y) % s ≡ y
 rest_of s x y h = NatL.mul-add-mod_self_right x s y ∙ NatL.mod-eq_of_lt h
 
-pub in-turn-length : (h : Head) (p : ℕ → Patch) → length (in-turn h p) ≡ places h
-unfolding in-turn
-in-turn-length h p = build-length (places h) _
+pub in_turn_length : (h : Head) (p : ℕ → Patch) → length (in_turn h p) ≡ places h
+unfolding in_turn
+in_turn_length h p = build_length (places h) _
 
 -- polynomial t of the numbers in turn is patch t
-pub in-turn-filled : (h : Head) → Lawful (frame h) → (p : ℕ → Patch) (t : ℕ) → t < h.m
-    → (j : Index) → (frame h).Inside j → polynomial h (in-turn h p) t j ≡ p t j
-unfolding in-turn places
-in-turn-filled h L p t l j u =
+pub in_turn_filled : (h : Head) → Lawful (frame h) → (p : ℕ → Patch) (t : ℕ) → t < h.m
+    → (j : Index) → (frame h).Inside j → polynomial h (in_turn h p) t j ≡ p t j
+unfolding in_turn places
+in_turn_filled h L p t l j u =
     let F = frame h in
-    let b : (frame h).place j < (frame h).size = L.place-below j u in
-    build-at (h.m * F.size) (λ x. p (x / F.size) (F.index (x % F.size))) (t * F.size + F.place j) (row_lt t h.m F.size (F.place j) l b)
+    let b : (frame h).place j < (frame h).size = L.place_below j u in
+    build_at (h.m * F.size) (λ x. p (x / F.size) (F.index (x % F.size))) (t * F.size + F.place j) (row_lt t h.m F.size (F.place j) l b)
     ∙ ap₂ (λ (x y : ℕ). p x (F.index y)) (row_of F.size t (F.place j) b) (rest_of F.size t (F.place j) b)
-    ∙ ap (p t) (L.index-place j u)
+    ∙ ap (p t) (L.index_place j u)
 
 -- and what holds of every number holds of every number of polynomial t
 pub number_of : (h : Head) → Lawful (frame h) → (xs : List ℤ) (t : ℕ) → t < h.m → (P : ℤ → Type 0) → ((i : ℕ) → i < places h → P (at xs i))
     → (j : Index) → (frame h).Inside j → P (polynomial h xs t j)
 unfolding places
-number_of h L xs t l P f j u = f (t * (frame h).size + (frame h).place j) (row_lt t h.m (frame h).size ((frame h).place j) l (L.place-below j u))
+number_of h L xs t l P f j u = f (t * (frame h).size + (frame h).place j) (row_lt t h.m (frame h).size ((frame h).place j) l (L.place_below j u))
 
-pub half-slot-length : (h : Head) (e : Half) (r : Direction) (l : List ℤ) → length (half-slot h e r l) ≡ width h
-unfolding half-slot
-half-slot-length h e r l = length-append (box-numbers (half-box e r (box_in l))) (half-numbers h e r (numbers l)) ∙ ap (λ (x : ℕ). 6 + x) (in-turn-length h _)
+pub half_slot_length : (h : Head) (e : Half) (r : Direction) (l : List ℤ) → length (half_slot h e r l) ≡ width h
+unfolding half_slot
+half_slot_length h e r l = length-append (box_numbers (half_box e r (box_in l))) (half_numbers h e r (numbers l)) ∙ ap (λ (x : ℕ). 6 + x) (in_turn_length h _)
 
-pub unit-slot-length : (h : Head) (cs : List ℤ) → length (unit-slot h cs) ≡ width h
-unfolding unit-slot
-unit-slot-length h cs = length-append (box-numbers unit) (start-numbers h cs) ∙ ap (λ (x : ℕ). 6 + x) (in-turn-length h _)
+pub unit_slot_length : (h : Head) (cs : List ℤ) → length (unit_slot h cs) ≡ width h
+unfolding unit_slot
+unit_slot_length h cs = length-append (box_numbers unit) (start_numbers h cs) ∙ ap (λ (x : ℕ). 6 + x) (in_turn_length h _)

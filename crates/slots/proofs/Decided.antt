@@ -23,18 +23,18 @@ use Rattle.system.specs.Heads.{frame, places}
 use Rattle.slots.specs.declared.Decision.{Decision}
 use Rattle.slots.specs.declared.Choice.{Choice}
 use Rattle.slots.specs.Slots.{at, polynomial, numbers}
-use Rattle.slots.specs.Rules.{every, has, signed, decided, by-choice, chosen, able, looked-by, looked}
+use Rattle.slots.specs.Rules.{every, has, signed, decided, by_choice, chosen, able, looked_by, looked}
 
 -- ---- every
 and_both : (a b : Bool) → (a && b) ≡ true → (a ≡ true) × (b ≡ true)
 and_both true b e = (refl, e)
 and_both false b e = absurd (subst T (sym e) tt)
 
-pub every-at : (f : ℤ → Bool) (xs : List ℤ) → every f xs ≡ true → (i : ℕ) → i < length xs → f (at xs i) ≡ true
+pub every_at : (f : ℤ → Bool) (xs : List ℤ) → every f xs ≡ true → (i : ℕ) → i < length xs → f (at xs i) ≡ true
 unfolding every
-every-at f [] e i h = absurd (NatL.not-suc-le-zero h)
-every-at f (x ∷ xs) e zero h = (and_both (f x) (every f xs) e).0
-every-at f (x ∷ xs) e (suc i) h = every-at f xs (and_both (f x) (every f xs) e).1 i (omega arith)
+every_at f [] e i h = absurd (NatL.not-suc-le-zero h)
+every_at f (x ∷ xs) e zero h = (and_both (f x) (every f xs) e).0
+every_at f (x ∷ xs) e (suc i) h = every_at f xs (and_both (f x) (every f xs) e).1 i (omega arith)
 
 -- ---- the polynomial that decides
 pub record Decides (count size : ℕ) (xs : List ℤ) (p q : ℕ) (s : Sign) : Type 0 where
@@ -59,10 +59,10 @@ signed_by p xs else q s e = from (every (has Above) xs) (every (has Below) xs) r
     from false true f g e = one Below g e
     from false false f g e = inr e
 
-pub decided-by : (count size p : ℕ) (xs : List ℤ) (q : ℕ) (s : Sign) → decided count size p xs ≡ Decision.By q s → Decides count size xs p q s
+pub decided_by : (count size p : ℕ) (xs : List ℤ) (q : ℕ) (s : Sign) → decided count size p xs ≡ Decision.By q s → Decides count size xs p q s
 unfolding decided
-decided-by zero size p xs q s e = let z : ◌≡◌ {A = ℕ} 0 1 = cc in absurd (omega arith)
-decided-by (suc count) size p xs q s e = from (λ f. decided-by count size (suc p) (drop size xs) q s f) (signed_by p (take size xs) (decided count size (suc p) (drop size xs)) q s e)
+decided_by zero size p xs q s e = let z : ◌≡◌ {A = ℕ} 0 1 = cc in absurd (omega arith)
+decided_by (suc count) size p xs q s e = from (λ f. decided_by count size (suc p) (drop size xs) q s f) (signed_by p (take size xs) (decided count size (suc p) (drop size xs)) q s e)
   where
     none : 0 * size ≡ 0
     none = NatL.zero-mul size
@@ -87,22 +87,22 @@ abbrev pub sign : Sign → Points.Sign
 sign Above = Points.above
 sign Below = Points.below
 
-has-sign : (s : Sign) (z : ℤ) → has s z ≡ true → Has (sign s) z
-has-sign Above z e = record { lt = subst T (sym e) tt }
-has-sign Below z e = record { lt = subst T (sym e) tt }
+has_sign : (s : Sign) (z : ℤ) → has s z ≡ true → Has (sign s) z
+has_sign Above z e = record { lt = subst T (sym e) tt }
+has_sign Below z e = record { lt = subst T (sym e) tt }
 
-pub signed-patch : (h : Head) → Lawful (frame h) → (xs : List ℤ) (t : ℕ) (s : Sign) → places h ≤ length xs → t < h.m
+pub signed_patch : (h : Head) → Lawful (frame h) → (xs : List ℤ) (t : ℕ) (s : Sign) → places h ≤ length xs → t < h.m
     → every (has s) (take (frame h).size (drop (t * (frame h).size) xs)) ≡ true → (j : Index) → (frame h).Inside j → Has (sign s) (polynomial h xs t j)
 unfolding places
-signed-patch h L xs t s long l e j u =
+signed_patch h L xs t s long l e j u =
     let S = (frame h).size in
     let i = (frame h).place j in
-    let b : (frame h).place j < (frame h).size = L.place-below j u in
+    let b : (frame h).place j < (frame h).size = L.place_below j u in
     let a : suc t * (frame h).size ≤ h.m * (frame h).size = NatL.mul-le-mul_right (frame h).size l in
     let ys = drop (t * S) xs in
     let c : length (take (frame h).size (drop (t * (frame h).size) xs)) ≡ (frame h).size = simp (length-take, length-drop) (omega arith) in
-    has-sign s (at xs (t * S + i)) (subst (λ (z : ℤ). has s z ≡ true) (get_or-take S ys i (pos 0) b ∙ get_or-drop (t * S) xs i (pos 0))
-    (every-at (has s) (take S ys) e i (rw c b)))
+    has_sign s (at xs (t * S + i)) (subst (λ (z : ℤ). has s z ≡ true) (get_or-take S ys i (pos 0) b ∙ get_or-drop (t * S) xs i (pos 0))
+    (every_at (has s) (take S ys) e i (rw c b)))
 
 -- ---- the outcome of a visit
 pub record DroppedBy (h : Head) (l : List ℤ) (q : ℕ) (s : Sign) : Type 0 where
@@ -111,20 +111,20 @@ pub record DroppedBy (h : Head) (l : List ℤ) (q : ℕ) (s : Sign) : Type 0 whe
   pub number : q ≡ 1 + which
   pub signs : (j : Index) → (frame h).Inside j → Has (sign s) (polynomial h (numbers l) which j)
 
-pub by-drop : (h : Head) (l : List ℤ) (able : Direction → Bool) (d : Decision) (q : ℕ) (s : Sign) → looked-by h l d able ≡ Outcome.Dropped q s → d ≡ Decision.By q s
-by-drop h l able (Decision.By p r) q s e = cc
-by-drop h l able Decision.Open q s e = absurd (by-choice-not (chosen h l) e)
+pub by_drop : (h : Head) (l : List ℤ) (able : Direction → Bool) (d : Decision) (q : ℕ) (s : Sign) → looked_by h l d able ≡ Outcome.Dropped q s → d ≡ Decision.By q s
+by_drop h l able (Decision.By p r) q s e = cc
+by_drop h l able Decision.Open q s e = absurd (by_choice_not (chosen h l) e)
   where
-    kept-or-cut : (b : Bool) (r : Direction) → cond b (Outcome.Cut r) (Outcome.Kept 2) ≡ Outcome.Dropped q s → ⊥
-    kept-or-cut true r e = let z : ◌≡◌ {A = ℕ} 0 1 = cc in omega arith
-    kept-or-cut false r e = let z : ◌≡◌ {A = ℕ} 0 1 = cc in omega arith
+    kept_or_cut : (b : Bool) (r : Direction) → cond b (Outcome.Cut r) (Outcome.Kept 2) ≡ Outcome.Dropped q s → ⊥
+    kept_or_cut true r e = let z : ◌≡◌ {A = ℕ} 0 1 = cc in omega arith
+    kept_or_cut false r e = let z : ◌≡◌ {A = ℕ} 0 1 = cc in omega arith
 
-    by-choice-not : (c : Choice) → by-choice able c ≡ Outcome.Dropped q s → ⊥
-    by-choice-not Choice.Nowhere e = let z : ◌≡◌ {A = ℕ} 0 1 = cc in omega arith
-    by-choice-not (Choice.Along r) e = kept-or-cut (able r) r e
+    by_choice_not : (c : Choice) → by_choice able c ≡ Outcome.Dropped q s → ⊥
+    by_choice_not Choice.Nowhere e = let z : ◌≡◌ {A = ℕ} 0 1 = cc in omega arith
+    by_choice_not (Choice.Along r) e = kept_or_cut (able r) r e
 
-pub dropped-by : (h : Head) → Lawful (frame h) → (l : List ℤ) (q : ℕ) (s : Sign) → places h ≤ length (numbers l) → looked h l ≡ Outcome.Dropped q s → DroppedBy h l q s
+pub dropped_by : (h : Head) → Lawful (frame h) → (l : List ℤ) (q : ℕ) (s : Sign) → places h ≤ length (numbers l) → looked h l ≡ Outcome.Dropped q s → DroppedBy h l q s
 unfolding looked
-dropped-by h L l q s long e =
-    let d = decided-by h.m (frame h).size 1 (numbers l) q s (by-drop h l (able h l) (decided h.m (frame h).size 1 (numbers l)) q s e) in
-    record { which = d.which; below = d.below; number = d.number; signs = signed-patch h L (numbers l) d.which s long d.below d.signs }
+dropped_by h L l q s long e =
+    let d = decided_by h.m (frame h).size 1 (numbers l) q s (by_drop h l (able h l) (decided h.m (frame h).size 1 (numbers l)) q s e) in
+    record { which = d.which; below = d.below; number = d.number; signs = signed_patch h L (numbers l) d.which s long d.below d.signs }

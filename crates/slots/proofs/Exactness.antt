@@ -5,30 +5,30 @@ use Prim.Native.Nat.{ℕ}
 use lib.IntN.{ℤ}
 use Rattle.whole.specs.Half.{Half}
 use Rattle.bernstein.specs.Three.{Direction}
-use Rattle.bernstein.specs.Numbers.{Patch, unit, half-box}
+use Rattle.bernstein.specs.Numbers.{Patch, unit, half_box}
 use Rattle.bernstein.specs.Frames.{Lawful}
 use Rattle.system.specs.declared.head.Head.{Head}
 use Rattle.system.specs.Heads.{frame}
-use Rattle.slots.specs.Slots.{box_in, polynomial, numbers, ExactSlot, half-slot, unit-slot}
-use Rattle.slots.proofs.Builds.{in-turn-filled}
+use Rattle.slots.specs.Slots.{box_in, polynomial, numbers, ExactSlot, half_slot, unit_slot}
+use Rattle.slots.proofs.Builds.{in_turn_filled}
 
 module _ (h : Head) (L : Lawful (frame h)) where
-  pub unit-exact : (cs : List ℤ) → ExactSlot h (polynomial h cs) (unit-slot h cs)
-  unfolding unit-slot
-  unit-exact cs =
+  pub unit_exact : (cs : List ℤ) → ExactSlot h (polynomial h cs) (unit_slot h cs)
+  unfolding unit_slot
+  unit_exact cs =
       let p : ℕ → Patch = λ t. (frame h).start (polynomial h cs t) in
-      record { exact-slot = λ t l. L.Exact-same unit (polynomial h cs t) (p t) _ (L.start-exact (polynomial h cs t)) (in-turn-filled h L p t l) }
+      record { exact_slot = λ t l. L.Exact-same unit (polynomial h cs t) (p t) _ (L.start_exact (polynomial h cs t)) (in_turn_filled h L p t l) }
 
-  pub half-exact : (a : ℕ → Patch) (l : List ℤ) → ExactSlot h a l → (e : Half) (r : Direction) → ExactSlot h a (half-slot h e r l)
-  unfolding half-slot
-  half-exact a l x e r =
+  pub half_exact : (a : ℕ → Patch) (l : List ℤ) → ExactSlot h a l → (e : Half) (r : Direction) → ExactSlot h a (half_slot h e r l)
+  unfolding half_slot
+  half_exact a l x e r =
       let p : ℕ → Patch = λ t. (frame h).half e r (polynomial h (numbers l) t) in
       record {
-        exact-slot = λ t m. L.Exact-same (half-box e r (box_in l)) (a t) (p t) _ (L.cut-exact (box_in l) (a t) _ (x.exact-slot t m) e r)
-            (in-turn-filled h L p t m);
+        exact_slot = λ t m. L.Exact-same (half_box e r (box_in l)) (a t) (p t) _ (L.cut_exact (box_in l) (a t) _ (x.exact_slot t m) e r)
+            (in_turn_filled h L p t m);
       }
 
 -- the box of a half is the half of the box
-pub half-box-in : (h : Head) (e : Half) (r : Direction) (l : List ℤ) → box_in (half-slot h e r l) ≡ half-box e r (box_in l)
-unfolding half-slot
-half-box-in h e r l = refl
+pub half_box_in : (h : Head) (e : Half) (r : Direction) (l : List ℤ) → box_in (half_slot h e r l) ≡ half_box e r (box_in l)
+unfolding half_slot
+half_box_in h e r l = refl

@@ -12,13 +12,13 @@ use lib.Seq.{get_or-take, get_or-drop, get_or-append-add, length-take-le}
 use Rattle.whole.specs.Half.{Half, lower, upper}
 use Rattle.bernstein.specs.Three.{Direction, first, second, third, ◌!◌}
 use Rattle.bernstein.specs.Numbers
-use Rattle.bernstein.specs.Numbers.{half-box}
+use Rattle.bernstein.specs.Numbers.{half_box}
 use borrow.Rule.Slice.PartMut.{put_mid}
 use Rattle.system.specs.declared.head.Head.{Head}
 use Rattle.boxes.specs.declared.half.Box.{Box}
-use Rattle.boxes.specs.Boxes.{as-box, from-box}
+use Rattle.boxes.specs.Boxes.{as_box, from_box}
 use Rattle.system.specs.Heads.{depths, places, width}
-use Rattle.slots.specs.Slots.{at, column, span-in, box_in, box-numbers, numbers, SpanFits, SlotFits}
+use Rattle.slots.specs.Slots.{at, column, span_in, box_in, box_numbers, numbers, SpanFits, SlotFits}
 
 -- ---- the six numbers of a box
 pub put_six : (l : List ℤ) → 6 ≤ length l → {a b c d e f a' b' c' d' e' f' : ℤ} → a ≡ a' → b ≡ b' → c ≡ c' → d ≡ d' → e ≡ e' → f ≡ f'
@@ -31,94 +31,94 @@ put_six (_ ∷ _ ∷ _ ∷ _ ∷ []) h p q r s t u = absurd (omega arith)
 put_six (_ ∷ _ ∷ _ ∷ _ ∷ _ ∷ []) h p q r s t u = absurd (omega arith)
 put_six (_ ∷ _ ∷ _ ∷ _ ∷ _ ∷ _ ∷ l) h p q r s t u = cc (p, q, r, s, t, u)
 
-pub position-high : {s k : ℤ} → SpanFits 10 s k → nat_abs k < 1024
-position-high f = NatL.lt_of_lt_of_le f.k-high (pow_mono f.s-high)
+pub position_high : {s k : ℤ} → SpanFits 10 s k → nat_abs k < 1024
+position_high f = NatL.lt_of_lt_of_le f.k_high (pow_mono f.s_high)
 
 -- ---- the box of the slot at the front
-column-low : (q : Direction) → column q + 1 < 6
-column-low first = omega arith
-column-low second = omega arith
-column-low third = omega arith
+column_low : (q : Direction) → column q + 1 < 6
+column_low first = omega arith
+column_low second = omega arith
+column_low third = omega arith
 
-pub box-at : (l : List ℤ) (q : Direction) → box_in l ! q ≡ span-in q l
-box-at l first = refl
-box-at l second = refl
-box-at l third = refl
+pub box_at : (l : List ℤ) (q : Direction) → box_in l ! q ≡ span_in q l
+box_at l first = refl
+box_at l second = refl
+box_at l third = refl
 
 module _ (h : Head) (two : List ℤ) (f : SlotFits h (take (width h) two)) where
   front_at : (i : ℕ) → i < 6 → at (take (width h) two) i ≡ at two i
   front_at i b = get_or-take (width h) two i (pos 0) (omega arith)
 
-  pub front-spans : (q : Direction) → SpanFits 10 (at two (column q)) (at two (column q + 1))
-  front-spans q =
+  pub front_spans : (q : Direction) → SpanFits 10 (at two (column q)) (at two (column q + 1))
+  front_spans q =
       let s = f.spans q in
       let a : SpanFits 10 (at (take (width h) two) (column q)) (at (take (width h) two) (column q + 1)) = record {
-        s-low = s.s-low;
-        s-high = NatL.le_trans s.s-high (f.limits.depths-high q);
-        k-low = s.k-low;
-        k-high = s.k-high;
+        s_low = s.s_low;
+        s_high = NatL.le_trans s.s_high (f.limits.depths_high q);
+        k_low = s.k_low;
+        k_high = s.k_high;
       } in
-      let c = column-low q in
+      let c = column_low q in
       subst (λ (z : ℤ). SpanFits 10 z (at two (column q + 1))) (front_at (column q) (omega arith))
       (subst (λ (z : ℤ). SpanFits 10 (at (take (width h) two) (column q)) z) (front_at (column q + 1) c) a)
 
-  pub front-box : box_in (take (width h) two) ≡ box_in two
-  front-box = rw (front_at 0 (omega arith), front_at 1 (omega arith), front_at 2 (omega arith), front_at 3 (omega arith), front_at 4 (omega arith), front_at 5 (omega arith)) refl
+  pub front_box : box_in (take (width h) two) ≡ box_in two
+  front_box = rw (front_at 0 (omega arith), front_at 1 (omega arith), front_at 2 (omega arith), front_at 3 (omega arith), front_at 4 (omega arith), front_at 5 (omega arith)) refl
 
   -- a direction below its depth can be cut once more
-  pub front-cuts : (q : Direction) → (box_in (take (width h) two) ! q).cuts < depths h ! q → ((box_in (take (width h) two) ! q).cuts < 10) × ((box_in (take (width h) two) ! q).position < 1024)
-  front-cuts q l = (NatL.lt_of_lt_of_le l (f.limits.depths-high q), rw (box-at (take (width h) two) q) (rw (front_at (column q + 1) (column-low q)) (position-high (front-spans q))))
+  pub front_cuts : (q : Direction) → (box_in (take (width h) two) ! q).cuts < depths h ! q → ((box_in (take (width h) two) ! q).cuts < 10) × ((box_in (take (width h) two) ! q).position < 1024)
+  front_cuts q l = (NatL.lt_of_lt_of_le l (f.limits.depths_high q), rw (box_at (take (width h) two) q) (rw (front_at (column q + 1) (column_low q)) (position_high (front_spans q))))
 
 -- ---- the store before the cut of its lines: the six numbers of the upper half, the numbers of the box, and the six numbers of the lower half in the slot after it
 pub record Laid (h : Head) (r : Direction) (l store : List ℤ) : Type 0 where
   pub long : length store ≡ width h + width h
-  pub front : (i : ℕ) → i < 6 → at store i ≡ at (box-numbers (half-box upper r (box_in l))) i
+  pub front : (i : ℕ) → i < 6 → at store i ≡ at (box_numbers (half_box upper r (box_in l))) i
   pub inside : (y : ℕ) → y < places h → at store (6 + y) ≡ at (numbers l) y
-  pub back : (i : ℕ) → i < 6 → at store (width h + i) ≡ at (box-numbers (half-box lower r (box_in l))) i
+  pub back : (i : ℕ) → i < 6 → at store (width h + i) ≡ at (box_numbers (half_box lower r (box_in l))) i
 
 -- the store as the code lays it: the part from w on came back as last
 module _ (h : Head) (r : Direction) (two : List ℤ) (long : length two ≡ width h + width h) {last store : List ℤ} {up lo : Numbers.Box}
-    (upper_is : up ≡ half-box upper r (box_in (take (width h) two))) (lower-is : lo ≡ half-box lower r (box_in (take (width h) two)))
-    (last-is : last ≡ box-numbers lo ++ numbers (take (length two - width h) (drop (width h) two)))
-    (Store-is : store ≡ box-numbers up ++ numbers (put_mid (width h) (length two - width h) two last)) where
+    (upper_is : up ≡ half_box upper r (box_in (take (width h) two))) (lower_is : lo ≡ half_box lower r (box_in (take (width h) two)))
+    (last-is : last ≡ box_numbers lo ++ numbers (take (length two - width h) (drop (width h) two)))
+    (Store-is : store ≡ box_numbers up ++ numbers (put_mid (width h) (length two - width h) two last)) where
   abbrev one : List ℤ
   one = put_mid (width h) (length two - width h) two last
 
   abbrev rest : List ℤ
   rest = numbers (take (length two - width h) (drop (width h) two)) ++ drop (length two - width h) (drop (width h) two)
 
-  one-is : one ≡ take (width h) two ++ (box-numbers lo ++ rest)
-  one-is = ap (λ (x : List ℤ). take (width h) two ++ (x ++ drop (length two - width h) (drop (width h) two))) last-is
+  one_is : one ≡ take (width h) two ++ (box_numbers lo ++ rest)
+  one_is = ap (λ (x : List ℤ). take (width h) two ++ (x ++ drop (length two - width h) (drop (width h) two))) last-is
 
   front_length : length (take (width h) two) ≡ width h
   front_length = length-take-le (width h) two (omega arith)
 
-  one-length : length one ≡ width h + width h
-  one-length = ap length one-is ∙ length-append (take (width h) two) (box-numbers lo ++ rest) ∙ ap₂ ◌+◌ front_length (length-append (box-numbers lo) rest ∙ six-more)
+  one_length : length one ≡ width h + width h
+  one_length = ap length one_is ∙ length-append (take (width h) two) (box_numbers lo ++ rest) ∙ ap₂ ◌+◌ front_length (length-append (box_numbers lo) rest ∙ six_more)
     where
-      six-more : 6 + length rest ≡ width h
-      six-more = simp (length-append, length-drop, length-take) (omega arith)
+      six_more : 6 + length rest ≡ width h
+      six_more = simp (length-append, length-drop, length-take) (omega arith)
 
   behind : (y : ℕ) → at store (6 + y) ≡ at one (6 + y)
-  behind y = ap (λ (x : List ℤ). at x (6 + y)) Store-is ∙ get_or-append-add (box-numbers up) (drop 6 one) y (pos 0) ∙ get_or-drop 6 one y (pos 0)
+  behind y = ap (λ (x : List ℤ). at x (6 + y)) Store-is ∙ get_or-append-add (box_numbers up) (drop 6 one) y (pos 0) ∙ get_or-drop 6 one y (pos 0)
 
   pub laid : Laid h r (take (width h) two) store
   laid = record {
-    long = ap length Store-is ∙ length-append (box-numbers up) (drop 6 one) ∙ store_length;
-    front = λ i b. ap (λ (x : List ℤ). at x i) Store-is ∙ get_or-append (box-numbers up) (drop 6 one) (pos 0) i b ∙ ap (λ (x : Numbers.Box). at (box-numbers x) i) upper_is;
+    long = ap length Store-is ∙ length-append (box_numbers up) (drop 6 one) ∙ store_length;
+    front = λ i b. ap (λ (x : List ℤ). at x i) Store-is ∙ get_or-append (box_numbers up) (drop 6 one) (pos 0) i b ∙ ap (λ (x : Numbers.Box). at (box_numbers x) i) upper_is;
     inside = λ y b.
-        behind y ∙ ap (λ (x : List ℤ). at x (6 + y)) one-is ∙ get_or-append (take (width h) two) (box-numbers lo ++ rest) (pos 0) (6 + y) (omega (arith, front_length))
+        behind y ∙ ap (λ (x : List ℤ). at x (6 + y)) one_is ∙ get_or-append (take (width h) two) (box_numbers lo ++ rest) (pos 0) (6 + y) (omega (arith, front_length))
         ∙ sym (get_or-drop 6 (take (width h) two) y (pos 0));
     back = λ i b.
         let z : width h + i ≡ 6 + (places h + i) = omega arith in
         let y : 6 + (places h + i) ≡ length (take (width h) two) + i = omega (arith, front_length) in
-        ap (at store) z ∙ behind (places h + i) ∙ ap₂ at one-is y ∙ get_or-append-add (take (width h) two) (box-numbers lo ++ rest) i (pos 0)
-        ∙ get_or-append (box-numbers lo) rest (pos 0) i b ∙ ap (λ (x : Numbers.Box). at (box-numbers x) i) lower-is;
+        ap (at store) z ∙ behind (places h + i) ∙ ap₂ at one_is y ∙ get_or-append-add (take (width h) two) (box_numbers lo ++ rest) i (pos 0)
+        ∙ get_or-append (box_numbers lo) rest (pos 0) i b ∙ ap (λ (x : Numbers.Box). at (box_numbers x) i) lower_is;
   }
     where
       store_length : 6 + length (drop 6 one) ≡ width h + width h
-      store_length = simp length-drop (omega (arith, one-length))
+      store_length = simp length-drop (omega (arith, one_length))
 
 -- a half by value
-pub half-value : (e : Half) (r : Direction) {b c : Box} {a : Numbers.Box} → c ≡ from-box (half-box e r (as-box b)) → b ≡ from-box a → as-box c ≡ half-box e r a
-half-value e r p q = ap as-box p ∙ ap (λ (x : Box). half-box e r (as-box x)) q
+pub half_value : (e : Half) (r : Direction) {b c : Box} {a : Numbers.Box} → c ≡ from_box (half_box e r (as_box b)) → b ≡ from_box a → as_box c ≡ half_box e r a
+half_value e r p q = ap as_box p ∙ ap (λ (x : Box). half_box e r (as_box x)) q

@@ -14,13 +14,13 @@ use lib.Seq.{get_or-take, get_or-drop, drop-cons, set_at, drop-length, take_all}
 use Rattle.bernstein.specs.Points.{Has}
 use Rattle.boxes.specs.declared.visit.Sign.{Sign}
 use Rattle.boxes.specs.declared.visit.Sign.TheVariants.{Above, Below}
-use Rattle.lines.specs.Sides.{Each, At-most, side, Side-is}
+use Rattle.lines.specs.Sides.{Each, AtMost, side, SideIs}
 use Rattle.lines.specs.declared.sides.Side.{Side}
 use Rattle.lines.proofs.Parts.{iff-<}
 use Rattle.slots.specs.declared.Decision.{Decision}
 use Rattle.slots.specs.Slots.{at}
 use Rattle.slots.specs.Rules.{every, has, within, signed}
-use Rattle.slots.proofs.Decided.{every-at, sign}
+use Rattle.slots.proofs.Decided.{every_at, sign}
 
 -- two answers to one question
 pub same_answer : (a b : Bool) {P : Type 0} → (a ≡ true) ↔ P → (b ≡ true) ↔ P → a ≡ b
@@ -42,7 +42,7 @@ part_says {f} {P} iff l start k {stop} e fits = (
     each = λ i p q.
         let b : i - start < k = omega arith in
         let z : start + (i - start) ≡ i = omega arith in
-        (iff (at l i)).0 (subst (λ (y : ℤ). f y ≡ true) (place (i - start) b ∙ ap (at l) z) (every-at f (take k (drop start l)) t (i - start) (rw long b)));
+        (iff (at l i)).0 (subst (λ (y : ℤ). f y ≡ true) (place (i - start) b ∙ ap (at l) z) (every_at f (take k (drop start l)) t (i - start) (rw long b)));
   },
   λ h. every_of f (take k (drop start l)) (λ i q.
       let b : i < k = rw long at q in
@@ -55,21 +55,21 @@ part_says {f} {P} iff l start k {stop} e fits = (
     place : (i : ℕ) → i < k → at (take k (drop start l)) i ≡ at l (start + i)
     place i b = get_or-take k (drop start l) i (pos 0) b ∙ get_or-drop start l i (pos 0)
 
-pub within-says : (b : ℕ) (z : ℤ) → (within b z ≡ true) ↔ At-most b z
-within-says b z = (λ e. leb-true (nat_abs z) b e, λ h. le-leb (nat_abs z) b h)
+pub within_says : (b : ℕ) (z : ℤ) → (within b z ≡ true) ↔ AtMost b z
+within_says b z = (λ e. leb-true (nat_abs z) b e, λ h. le-leb (nat_abs z) b h)
 
-has-says : (s : Sign) (z : ℤ) → (has s z ≡ true) ↔ Has (sign s) z
-has-says Above z = iff-< (pos 0) z
-has-says Below z = iff-< z (pos 0)
+has_says : (s : Sign) (z : ℤ) → (has s z ≡ true) ↔ Has (sign s) z
+has_says Above z = iff-< (pos 0) z
+has_says Below z = iff-< z (pos 0)
 
 -- an answer of `all_within` is the rules' test, of a part and of a whole list
-pub within-part : {b : ℕ} {r : Bool} (l : List ℤ) (start k : ℕ) {stop : ℕ} → stop ≡ start + k → stop ≤ length l → (r ≡ true) ↔ Each (At-most b) l start stop
+pub within_part : {b : ℕ} {r : Bool} (l : List ℤ) (start k : ℕ) {stop : ℕ} → stop ≡ start + k → stop ≤ length l → (r ≡ true) ↔ Each (AtMost b) l start stop
     → r ≡ every (within b) (take k (drop start l))
-within-part {b} {r} l start k e fits a = same_answer r (every (within b) (take k (drop start l))) a (part_says (within-says b) l start k e fits)
+within_part {b} {r} l start k e fits a = same_answer r (every (within b) (take k (drop start l))) a (part_says (within_says b) l start k e fits)
 
-pub within-rest : {b : ℕ} {r : Bool} (l : List ℤ) (start : ℕ) → start ≤ length l → (r ≡ true) ↔ Each (At-most b) l start (length l) → r ≡ every (within b) (drop start l)
-within-rest {b} {r} l start h a =
-    within-part l start (length l - start) (omega arith) (omega arith) a ∙ ap (every (within b)) (take_all (length l - start) (drop start l) (simp length-drop (omega arith)))
+pub within_rest : {b : ℕ} {r : Bool} (l : List ℤ) (start : ℕ) → start ≤ length l → (r ≡ true) ↔ Each (AtMost b) l start (length l) → r ≡ every (within b) (drop start l)
+within_rest {b} {r} l start h a =
+    within_part l start (length l - start) (omega arith) (omega arith) a ∙ ap (every (within b)) (take_all (length l - start) (drop start l) (simp length-drop (omega arith)))
 
 -- ---- the rule of signs, by the side of the polynomial's part
 abbrev pub by_side : Side → ℕ → Decision → Decision
@@ -87,22 +87,22 @@ tells Side.Mixed s = false
 no_other : {A : Type 0} → ◌≡◌ {A = ℕ} 0 1 → A
 no_other z = absurd (omega arith)
 
-tells-side : (r : Side) (s : Sign) → (tells r s ≡ true) ↔ (r ≡ side (sign s))
+tells_side : (r : Side) (s : Sign) → (tells r s ≡ true) ↔ (r ≡ side (sign s))
 unfolding tells
-tells-side Side.Above Above = (λ e. refl, λ e. refl)
-tells-side Side.Above Below = (λ e. no_other (cc), λ e. no_other (cc))
-tells-side Side.Below Above = (λ e. no_other (cc), λ e. no_other (cc))
-tells-side Side.Below Below = (λ e. refl, λ e. refl)
-tells-side Side.Mixed Above = (λ e. no_other (cc), λ e. no_other (cc))
-tells-side Side.Mixed Below = (λ e. no_other (cc), λ e. no_other (cc))
+tells_side Side.Above Above = (λ e. refl, λ e. refl)
+tells_side Side.Above Below = (λ e. no_other (cc), λ e. no_other (cc))
+tells_side Side.Below Above = (λ e. no_other (cc), λ e. no_other (cc))
+tells_side Side.Below Below = (λ e. refl, λ e. refl)
+tells_side Side.Mixed Above = (λ e. no_other (cc), λ e. no_other (cc))
+tells_side Side.Mixed Below = (λ e. no_other (cc), λ e. no_other (cc))
 
-pub signed-side : (l : List ℤ) (start size : ℕ) {stop : ℕ} {r : Side} → stop ≡ start + size → stop ≤ length l → Side-is l start stop r → (p : ℕ) (else : Decision)
+pub signed_side : (l : List ℤ) (start size : ℕ) {stop : ℕ} {r : Side} → stop ≡ start + size → stop ≤ length l → SideIs l start stop r → (p : ℕ) (else : Decision)
     → signed p (take size (drop start l)) else ≡ by_side r p else
 unfolding tells
-signed-side l start size {stop} {r} e fits i p else = ap₂ (λ (a b : Bool). cond a (Decision.By p Above) (cond b (Decision.By p Below) else)) (told Above) (told Below) ∙ chosen r
+signed_side l start size {stop} {r} e fits i p else = ap₂ (λ (a b : Bool). cond a (Decision.By p Above) (cond b (Decision.By p Below) else)) (told Above) (told Below) ∙ chosen r
   where
     told : (s : Sign) → every (has s) (take size (drop start l)) ≡ tells r s
-    told s = same_answer (every (has s) (take size (drop start l))) (tells r s) (part_says (has-says s) l start size e fits) (joined (tells-side r s) (i.is (sign s)))
+    told s = same_answer (every (has s) (take size (drop start l))) (tells r s) (part_says (has_says s) l start size e fits) (joined (tells_side r s) (i.is (sign s)))
       where
         joined : {A B C : Type 0} → A ↔ B → B ↔ C → A ↔ C
         joined f g = (λ a. g.0 (f.0 a), λ c. f.1 (g.1 c))
@@ -116,11 +116,11 @@ signed-side l start size {stop} {r} e fits i p else = ap₂ (λ (a b : Bool). co
 abbrev pub cleared : List ℤ → ℕ → List ℤ
 cleared s i = replicate i (pos 0) ++ drop i s
 
-pub cleared-on : (s : List ℤ) (i : ℕ) → i < length s → set (cleared s i) i (pos 0) ≡ cleared s (i + 1)
-cleared-on s i h =
+pub cleared_on : (s : List ℤ) (i : ℕ) → i < length s → set (cleared s i) i (pos 0) ≡ cleared s (i + 1)
+cleared_on s i h =
     ap (λ (t : List ℤ). set (replicate i (pos 0) ++ t) i (pos 0)) (drop-cons s i (pos 0) h)
     ∙ set_at (replicate i (pos 0)) (at s i) (drop (suc i) s) (pos 0) i (length-replicate i (pos 0))
     ∙ sym (rw (← replicate-append-replicate i 1 (pos 0), append_assoc, add-one i) refl)
 
-pub cleared-end : (s : List ℤ) (i : ℕ) → i ≤ length s → length s ≤ i → cleared s i ≡ replicate (length s) (pos 0)
-cleared-end s i h k = let e : i ≡ length s = omega arith in rw (e, drop-length s) (append-nil (replicate (length s) (pos 0)))
+pub cleared_end : (s : List ℤ) (i : ℕ) → i ≤ length s → length s ≤ i → cleared s i ≡ replicate (length s) (pos 0)
+cleared_end s i h k = let e : i ≡ length s = omega arith in rw (e, drop-length s) (append-nil (replicate (length s) (pos 0)))

@@ -39,16 +39,16 @@ decided zero size p xs = Decision.Open
 decided (suc count) size p xs = signed p (take size xs) (decided count size (suc p) (drop size xs))
 
 -- ---- 2, 3. the direction with the fewest cuts among those below their depth, ties to the lowest
-abbrev pub cuts-in : List ℤ → Direction → ℕ
-cuts-in l r = (box_in l ! direction r).cuts
+abbrev pub cuts_in : List ℤ → Direction → ℕ
+cuts_in l r = (box_in l ! direction r).cuts
 
-abbrev pub below-depth : Head → List ℤ → Direction → Bool
-below-depth h l r = ltb (cuts-in l r) (depths h ! direction r)
+abbrev pub below_depth : Head → List ℤ → Direction → Bool
+below_depth h l r = ltb (cuts_in l r) (depths h ! direction r)
 
 -- r takes the place of what was chosen before it, if it may be cut and has fewer cuts
 abbrev pub better : Head → List ℤ → Choice → Direction → Choice
-better h l Choice.Nowhere r = cond (below-depth h l r) (Choice.Along r) Choice.Nowhere
-better h l (Choice.Along q) r = cond (below-depth h l r && ltb (cuts-in l r) (cuts-in l q)) (Choice.Along r) (Choice.Along q)
+better h l Choice.Nowhere r = cond (below_depth h l r) (Choice.Along r) Choice.Nowhere
+better h l (Choice.Along q) r = cond (below_depth h l r && ltb (cuts_in l r) (cuts_in l q)) (Choice.Along r) (Choice.Along q)
 
 unfoldable pub chosen : Head → List ℤ → Choice
 chosen h l = better h l (better h l (better h l Choice.Nowhere Direction.First) Direction.Second) Direction.Third
@@ -57,20 +57,20 @@ chosen h l = better h l (better h l (better h l Choice.Nowhere Direction.First) 
 abbrev pub limit : ℕ → ℕ
 limit n = 2 ^ (62 - n) - 1
 
-abbrev pub can-cut : Head → Three.Direction → List ℤ → Bool
-can-cut h r l = every (within (limit ((frame h).degree r))) (numbers l)
+abbrev pub can_cut : Head → Three.Direction → List ℤ → Bool
+can_cut h r l = every (within (limit ((frame h).degree r))) (numbers l)
 
 -- ---- the steps in order, by what is read of a slot: what its numbers decide, and along which directions it is able to be cut
 abbrev pub able : Head → List ℤ → Direction → Bool
-able h l r = can-cut h (direction r) l
+able h l r = can_cut h (direction r) l
 
-abbrev pub by-choice : (Direction → Bool) → Choice → Outcome
-by-choice can Choice.Nowhere = Outcome.Kept 1
-by-choice can (Choice.Along r) = cond (can r) (Outcome.Cut r) (Outcome.Kept 2)
+abbrev pub by_choice : (Direction → Bool) → Choice → Outcome
+by_choice can Choice.Nowhere = Outcome.Kept 1
+by_choice can (Choice.Along r) = cond (can r) (Outcome.Cut r) (Outcome.Kept 2)
 
-abbrev pub looked-by : Head → List ℤ → Decision → (Direction → Bool) → Outcome
-looked-by h l (Decision.By p s) can = Outcome.Dropped p s
-looked-by h l Decision.Open can = by-choice can (chosen h l)
+abbrev pub looked_by : Head → List ℤ → Decision → (Direction → Bool) → Outcome
+looked_by h l (Decision.By p s) can = Outcome.Dropped p s
+looked_by h l Decision.Open can = by_choice can (chosen h l)
 
 unfoldable pub looked : Head → List ℤ → Outcome
-looked h l = looked-by h l (decided h.m (frame h).size 1 (numbers l)) (able h l)
+looked h l = looked_by h l (decided h.m (frame h).size 1 (numbers l)) (able h l)

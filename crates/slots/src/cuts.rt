@@ -3,11 +3,11 @@ ghost use Rattle.std.specs.Prelude.{◌≡◌, true, ◌++◌, ◌+◌, ◌<◌,
 ghost use Rattle.whole.specs.Half.{lower, upper};
 ghost use Rattle.bernstein.specs.Three as Three;
 ghost use Rattle.bernstein.specs.Three.{◌!◌};
-ghost use Rattle.bernstein.specs.Numbers.{half-box};
+ghost use Rattle.bernstein.specs.Numbers.{half_box};
 ghost use Rattle.system.specs.Heads.{depths, width};
-ghost use Rattle.boxes.specs.Boxes.{direction, as-box, from-box, half_at};
-ghost use Rattle.slots.specs.Slots.{at, column, box_in, half-slot, SpanFits, SlotFits};
-ghost use Rattle.slots.specs.Rules.{can-cut};
+ghost use Rattle.boxes.specs.Boxes.{direction, as_box, from_box, half_at};
+ghost use Rattle.slots.specs.Slots.{at, column, box_in, half_slot, SpanFits, SlotFits};
+ghost use Rattle.slots.specs.Rules.{can_cut};
 
 use crate::directions::{blocks_in, degree_in, stride_in};
 use crate::fronts::{count_at, put_box};
@@ -17,7 +17,7 @@ use system::head::Head;
 // The box of a slot.
 pub fn box_of(slot: &[i64]) -> Box
     requires { (6 ≤ length slot.now) × ((q : Three.Direction) → SpanFits 10 (at slot.now (column q)) (at slot.now (column q + 1))) }
-    ensures { result ≡ from-box (box_in slot.now) }
+    ensures { result ≡ from_box (box_in slot.now) }
 {
     Box {
         s1: count_at(slot, 0) as u8,
@@ -31,8 +31,8 @@ pub fn box_of(slot: &[i64]) -> Box
 
 // Side 0 is the lower half, 1 the upper.
 fn half_of(b: Box, r: Direction, side: u16) -> Box
-    requires { (side ≤ 1) × ((as-box b ! direction r).cuts < 10) × ((as-box b ! direction r).position < 1024) }
-    ensures { result ≡ from-box (half-box (half_at side) (direction r) (as-box b)) }
+    requires { (side ≤ 1) × ((as_box b ! direction r).cuts < 10) × ((as_box b ! direction r).position < 1024) }
+    ensures { result ≡ from_box (half_box (half_at side) (direction r) (as_box b)) }
 {
     match r {
         Direction::First => Box {
@@ -64,8 +64,8 @@ fn half_of(b: Box, r: Direction, side: u16) -> Box
 
 // The slot at the front of `two` is cut in direction r: the upper half takes it, the lower half goes into the slot after it.
 pub fn cut(two: &mut [i64], h: Head, r: Direction)
-    requires { SlotFits h (take (width h) two.old) × (length two.old ≡ width h + width h) × ((box_in (take (width h) two.old) ! direction r).cuts < depths h ! direction r) × (can-cut h (direction r) (take (width h) two.old) ≡ true) }
-    ensures { two.new ≡ half-slot h upper (direction r) (take (width h) two.old) ++ half-slot h lower (direction r) (take (width h) two.old) }
+    requires { SlotFits h (take (width h) two.old) × (length two.old ≡ width h + width h) × ((box_in (take (width h) two.old) ! direction r).cuts < depths h ! direction r) × (can_cut h (direction r) (take (width h) two.old) ≡ true) }
+    ensures { two.new ≡ half_slot h upper (direction r) (take (width h) two.old) ++ half_slot h lower (direction r) (take (width h) two.old) }
 {
     let w = h.width();
     let b = box_of(two);

@@ -1,7 +1,7 @@
 // The front of a slot: the six numbers of its box.
 ghost use Rattle.std.specs.Prelude.{◌≡◌, ◌++◌, ◌<◌, ◌≤◌, pos, nat_abs, ◌≤ℤ◌, length};
-ghost use Rattle.boxes.specs.Boxes.{as-box};
-ghost use Rattle.slots.specs.Slots.{at, box-numbers, numbers};
+ghost use Rattle.boxes.specs.Boxes.{as_box};
+ghost use Rattle.slots.specs.Slots.{at, box_numbers, numbers};
 
 use boxes::half::Box;
 
@@ -23,7 +23,7 @@ fn small(x: u16) -> i64
 // The six numbers of a box stand first.
 pub fn put_box(slot: &mut [i64], b: Box)
     requires { 6 ≤ length slot.old }
-    ensures { slot.new ≡ box-numbers (as-box b) ++ numbers slot.old }
+    ensures { slot.new ≡ box_numbers (as_box b) ++ numbers slot.old }
 {
     slot[0] = small(b.s1 as u16);
     slot[1] = small(b.k1);

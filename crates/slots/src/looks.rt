@@ -4,7 +4,7 @@ ghost use Rattle.bernstein.specs.Three.{◌!◌};
 ghost use Rattle.system.specs.Heads.{depths};
 ghost use Rattle.boxes.specs.Boxes.{direction};
 ghost use Rattle.slots.specs.Slots.{numbers, SlotFits};
-ghost use Rattle.slots.specs.Rules.{limit, decided, cuts-in, below-depth, better, chosen, can-cut, able, by-choice, looked};
+ghost use Rattle.slots.specs.Rules.{limit, decided, cuts_in, below_depth, better, chosen, can_cut, able, by_choice, looked};
 
 use crate::directions::degree_in;
 use crate::fronts::count_at;
@@ -41,7 +41,7 @@ fn decide(slot: &[i64], m: u8, size: usize) -> Decision
 
 fn cuts_in(slot: &[i64], h: Head, r: Direction) -> u64
     requires { SlotFits h slot.now }
-    ensures { result ≡ cuts-in slot.now r }
+    ensures { result ≡ cuts_in slot.now r }
 {
     match r {
         Direction::First => count_at(slot, 0),
@@ -62,7 +62,7 @@ fn depth_in(h: Head, r: Direction) -> u64
 
 fn below_depth(slot: &[i64], h: Head, r: Direction) -> bool
     requires { SlotFits h slot.now }
-    ensures { result ≡ below-depth h slot.now r }
+    ensures { result ≡ below_depth h slot.now r }
 {
     cuts_in(slot, h, r) < depth_in(h, r)
 }
@@ -109,7 +109,7 @@ fn limit_of(n: usize) -> i64
 
 fn can_cut(slot: &[i64], h: Head, r: Direction) -> bool
     requires { SlotFits h slot.now }
-    ensures { result ≡ can-cut h (direction r) slot.now }
+    ensures { result ≡ can_cut h (direction r) slot.now }
 {
     lines::sides::all_within(slot, 6, slot.len(), limit_of(degree_in(h, r)))
 }
@@ -117,7 +117,7 @@ fn can_cut(slot: &[i64], h: Head, r: Direction) -> bool
 // The steps 2 to 4.
 fn undecided(slot: &[i64], h: Head) -> Outcome
     requires { SlotFits h slot.now }
-    ensures { result ≡ by-choice (able h slot.now) (chosen h slot.now) }
+    ensures { result ≡ by_choice (able h slot.now) (chosen h slot.now) }
 {
     let c = choose(slot, h);
     match c {

@@ -7,7 +7,7 @@ ghost use Rattle.bernstein.specs.Numbers as Numbers;
 ghost use Rattle.bernstein.specs.Places.{size, index};
 ghost use Rattle.system.specs.Heads.{degrees, places, width, Limits};
 ghost use Rattle.boxes.specs.Boxes.{direction};
-ghost use Rattle.slots.specs.Slots.{at, polynomial, numbers, in-turn, unit-slot};
+ghost use Rattle.slots.specs.Slots.{at, polynomial, numbers, in_turn, unit_slot};
 ghost use Rattle.slots.specs.Rules.{every, within};
 ghost use Rattle.slots.specs.Inside.{Weights};
 
@@ -52,7 +52,7 @@ fn times(w: usize, x: i64) -> i64
 // The coefficients times their weights, after the box.
 fn weigh(slot: &mut [i64], coefficients: &[i64], weights: &[usize], h: Head)
     requires { Weights weights.now × Limits h × (length slot.old ≡ width h) × (places h ≤ length coefficients.now) × (every (within 1000000000) (take (places h) coefficients.now) ≡ true) }
-    ensures { slot.new ≡ take 6 slot.old ++ in-turn h (λ t. weighted (degrees h) (polynomial h coefficients.now t)) }
+    ensures { slot.new ≡ take 6 slot.old ++ in_turn h (λ t. weighted (degrees h) (polynomial h coefficients.now t)) }
 {
     let size = h.size();
     let places = h.places();
@@ -66,7 +66,7 @@ fn weigh(slot: &mut [i64], coefficients: &[i64], weights: &[usize], h: Head)
 // All steps along all lines of direction r.
 fn spread(slot: &mut [i64], h: Head, r: Direction)
     requires { Limits h × (length slot.old ≡ width h) × ((x : ℕ) → x < places h → Below (2 ^ (62 - degrees h ! direction r)) (at slot.old (6 + x))) }
-    ensures { slot.new ≡ take 6 slot.old ++ in-turn h (λ t. Numbers.spread (degrees h) (direction r) (polynomial h (numbers slot.old) t)) }
+    ensures { slot.new ≡ take 6 slot.old ++ in_turn h (λ t. Numbers.spread (degrees h) (direction r) (polynomial h (numbers slot.old) t)) }
 {
     lines::spread_blocks(slot, 6, blocks_in(h, r), stride_in(h, r), degree_in(h, r));
 }
@@ -74,7 +74,7 @@ fn spread(slot: &mut [i64], h: Head, r: Direction)
 // The slot of a start.
 pub fn start(slot: &mut [i64], coefficients: &[i64], h: Head)
     requires { Limits h × (length slot.old ≡ width h) × (places h ≤ length coefficients.now) × (every (within 1000000000) (take (places h) coefficients.now) ≡ true) }
-    ensures { slot.new ≡ unit-slot h coefficients.now }
+    ensures { slot.new ≡ unit_slot h coefficients.now }
 {
     put_box(slot, Box::unit());
     let weights = WEIGHTS;

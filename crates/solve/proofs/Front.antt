@@ -5,5 +5,5 @@ use mathlib.Core.List.{List, ◌++◌}
 use native.Mathlib.Omega.{arith}
 use lib.ListN.{length, length-append}
 
-pub front-there : (t W rest : List ℕ) (r : ℕ) → r ≡ length W → t ≡ W ++ rest → r ≤ length t
-front-there t W rest r er et = omega (arith, ap length et ∙ length-append W rest)
+pub front_there : (t W rest : List ℕ) (r : ℕ) → r ≡ length W → t ≡ W ++ rest → r ≤ length t
+front_there t W rest r er et = omega (arith, ap length et ∙ length-append W rest)

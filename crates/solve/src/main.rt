@@ -1,5 +1,7 @@
 // The desk program: reads a system file from standard input and writes what is found to standard output. What could not be read or written it says on
 // standard error; of a file that was not read to its end it answers nothing.
+#![tactic(auto)]
+
 mod moving;
 
 use runs::runs::Answer;

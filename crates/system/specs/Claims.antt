@@ -4,5 +4,5 @@ use Rattle.system.specs.declared.head.Head.{Head}
 use Rattle.system.specs.Heads.{head_ok, Limits}
 
 -- 01, "The system": a head passes exactly within the limits
-abbrev pub Head-limits : Type 0
-Head-limits = (h : Head) → (head_ok h ≡ true) ↔ Limits h
+abbrev pub HeadLimits : Type 0
+HeadLimits = (h : Head) → (head_ok h ≡ true) ↔ Limits h

@@ -3,14 +3,14 @@ use Rattle.std.specs.Prelude.{ℕ, Bool, cond, ◌&&◌, leb, eqb}
 use Rattle.bernstein.specs.Three.{Direction, first, second, third}
 
 -- variable 1 to 3 (01, "The system")
-abbrev pub direction-number : Direction → ℕ
-direction-number first = 1
-direction-number second = 2
-direction-number third = 3
+abbrev pub direction_number : Direction → ℕ
+direction_number first = 1
+direction_number second = 2
+direction_number third = 3
 
 -- "directions 1 to 3" (01, "Runs"); what another number gives is never asked
-abbrev pub direction-at : ℕ → Direction
-direction-at d = cond (eqb d 1) first (cond (eqb d 2) second third)
+abbrev pub direction_at : ℕ → Direction
+direction_at d = cond (eqb d 1) first (cond (eqb d 2) second third)
 
 abbrev pub each : (Direction → Bool) → Bool
 each f = f first && f second && f third

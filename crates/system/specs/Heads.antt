@@ -1,13 +1,13 @@
 -- The head of a system (01, "The system"): degrees, depths, S, D, places, the width of a slot, the scale, and the limits: once as the chain of tests that
--- `check` makes, once as a record of facts. Definitions only; that the two agree is `Head-limits` in Claims.
+-- `check` makes, once as a record of facts. Definitions only; that the two agree is `HeadLimits` in Claims.
 use Rattle.std.specs.Prelude.{ℕ, ◌+◌, ◌*◌, ◌≤◌, ◌<◌, ◌≡◌, Bool, cond, ◌&&◌, ◌||◌, leb, eqb}
 use Rattle.bernstein.specs.Three.{Direction, Three, three, ◌!◌}
 use Rattle.bernstein.specs.Numbers.{Degrees, Small}
 use Rattle.bernstein.specs.Numbers
 use Rattle.bernstein.specs.Places.{size}
 use Rattle.bernstein.specs.Frames.{Frame, boxes}
-use Rattle.system.specs.Directions.{direction-number, each, between}
-use Rattle.system.specs.Refusals.{at-start}
+use Rattle.system.specs.Directions.{direction_number, each, between}
+use Rattle.system.specs.Refusals.{at_start}
 use Rattle.system.specs.declared.refusal.Refusal.{Refusal}
 use Rattle.system.specs.declared.head.Head.{Head}
 use Rattle.system.specs.declared.head.Checked.{Checked}
@@ -39,25 +39,25 @@ unfoldable pub scale : Head → ℕ
 scale h = Numbers.scale h.n1 * Numbers.scale h.n2 * Numbers.scale h.n3
 
 -- ---- the limits
-abbrev pub variable-ok : ℕ → ℕ → ℕ → ℕ → Bool
-variable-ok l r n g = leb n 6 && leb g 10 && (leb r l || (eqb n 0 && eqb g 0))
+abbrev pub variable_ok : ℕ → ℕ → ℕ → ℕ → Bool
+variable_ok l r n g = leb n 6 && leb g 10 && (leb r l || (eqb n 0 && eqb g 0))
 
 unfoldable pub head_ok : Head → Bool
 head_ok h =
     between 1 3 h.l && between 1 3 h.m
-    && each (λ r. variable-ok h.l (direction-number r) (degrees h ! r) (depths h ! r))
+    && each (λ r. variable_ok h.l (direction_number r) (degrees h ! r) (depths h ! r))
     && leb (size (degrees h)) 64
 
 pub record Limits (h : Head) : Type 0 where
-  pub l-low : 1 ≤ h.l
-  pub l-high : h.l ≤ 3
-  pub m-low : 1 ≤ h.m
-  pub m-high : h.m ≤ 3
-  pub degrees-high : Small (degrees h)
-  pub depths-high : (r : Direction) → depths h ! r ≤ 10
-  pub beyond : (r : Direction) → h.l < direction-number r → (degrees h ! r ≡ 0) × (depths h ! r ≡ 0)
-  pub size-high : size (degrees h) ≤ 64
+  pub l_low : 1 ≤ h.l
+  pub l_high : h.l ≤ 3
+  pub m_low : 1 ≤ h.m
+  pub m_high : h.m ≤ 3
+  pub degrees_high : Small (degrees h)
+  pub depths_high : (r : Direction) → depths h ! r ≤ 10
+  pub beyond : (r : Direction) → h.l < direction_number r → (degrees h ! r ≡ 0) × (depths h ! r ≡ 0)
+  pub size_high : size (degrees h) ≤ 64
 
 -- refusal 4
 abbrev pub checked : Head → Checked
-checked h = cond (head_ok h) Checked.Good (Checked.Refused (at-start Refusal.OutOfLimits))
+checked h = cond (head_ok h) Checked.Good (Checked.Refused (at_start Refusal.OutOfLimits))

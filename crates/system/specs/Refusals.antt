@@ -26,5 +26,5 @@ number TooShort = 9
 -- a box or state outside the rules
 number OutsideRules = 10
 
-abbrev pub at-start : Refusal → Refused
-at-start w = record { why = w; at = 0 }
+abbrev pub at_start : Refusal → Refused
+at_start w = record { why = w; at = 0 }

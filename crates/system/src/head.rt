@@ -3,7 +3,7 @@ ghost use Rattle.std.specs.Prelude.{◌≡◌, ◌+◌, ◌≤◌};
 ghost use Rattle.bernstein.specs.Three.{three};
 ghost use Rattle.bernstein.specs.Numbers as Numbers;
 ghost use Rattle.bernstein.specs.Places as Places;
-ghost use Rattle.system.specs.Heads.{degrees, places, depth, width, scale, variable-ok, head_ok, checked};
+ghost use Rattle.system.specs.Heads.{degrees, places, depth, width, scale, variable_ok, head_ok, checked};
 
 use crate::refusal::{Refusal, Refused};
 use crate::test::{both, either, from_to};
@@ -40,7 +40,7 @@ fn past(x: u8) -> usize
 
 // Beyond variable l degree and depth are 0.
 fn variable_ok(l: u8, r: u8, n: u8, g: u8) -> bool
-    ensures { result ≡ variable-ok l r n g }
+    ensures { result ≡ variable_ok l r n g }
 {
     both(both(n <= 6, g <= 10), either(r <= l, both(n == 0, g == 0)))
 }

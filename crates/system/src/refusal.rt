@@ -1,6 +1,6 @@
 // Why a call refuses, with 01's number, and where in the file.
 ghost use Rattle.std.specs.Prelude.{◌≡◌};
-ghost use Rattle.system.specs.Refusals.{number, at-start};
+ghost use Rattle.system.specs.Refusals.{number, at_start};
 
 #[derive(Drop)]
 pub enum Refusal {
@@ -42,7 +42,7 @@ impl Refusal {
 
     // In a call that reads no file the offset is 0.
     pub fn at_start(self) -> Refused
-        ensures { result ≡ at-start self }
+        ensures { result ≡ at_start self }
     {
         Refused { why: self, at: 0 }
     }

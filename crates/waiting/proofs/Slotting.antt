@@ -39,17 +39,17 @@ module _ {A : Type 0} {W a w : ℕ} (p : ℕ) (ea : a ≡ p * W) (ew : w ≡ W) 
   pub slot_is : take (a + w - a) (drop a st) ≡ slot W p st
   slot_is = let z : a + w - a ≡ W = omega arith in rw (z, ea) refl
 
-  pub slot-long : a + w ≤ length st → length (take (a + w - a) (drop a st)) ≡ W
-  slot-long h = simp (length-take, length-drop) (omega arith)
+  pub slot_long : a + w ≤ length st → length (take (a + w - a) (drop a st)) ≡ W
+  slot_long h = simp (length-take, length-drop) (omega arith)
 
-  pub slot-back : (x y : List A) → y ≡ x → length x ≡ W → put_mid a (a + w - a) st y ≡ put (p * W) x st
-  slot-back x y e l = let z : a + w - a ≡ length x = omega arith in rw (e, z, ea, drop-drop (length x) (p * W) st) refl
+  pub slot_back : (x y : List A) → y ≡ x → length x ≡ W → put_mid a (a + w - a) st y ≡ put (p * W) x st
+  slot_back x y e l = let z : a + w - a ≡ length x = omega arith in rw (e, z, ea, drop-drop (length x) (p * W) st) refl
 
-  pub two-first : take W (take (a + w + w - a) (drop a st)) ≡ slot W p st
-  two-first = take-take W (a + w + w - a) (drop a st) (omega arith) ∙ ap (λ (i : ℕ). take W (drop i st)) ea
+  pub two_first : take W (take (a + w + w - a) (drop a st)) ≡ slot W p st
+  two_first = take-take W (a + w + w - a) (drop a st) (omega arith) ∙ ap (λ (i : ℕ). take W (drop i st)) ea
 
-  pub two-length : a + w + w ≤ length st → length (take (a + w + w - a) (drop a st)) ≡ W + W
-  two-length h = simp (length-take, length-drop) (omega arith)
+  pub two_length : a + w + w ≤ length st → length (take (a + w + w - a) (drop a st)) ≡ W + W
+  two_length h = simp (length-take, length-drop) (omega arith)
 
   pub two_back : (x x' y : List A) → y ≡ x ++ x' → length x ≡ W → length x' ≡ W → a + w + w ≤ length st
       → put_mid a (a + w + w - a) st y ≡ put (suc p * W) x' (put (p * W) x st)
@@ -59,22 +59,22 @@ module _ {A : Type 0} {W a w : ℕ} (p : ℕ) (ea : a ≡ p * W) (ew : w ≡ W) 
       rw (e, z, ea, n) (put_two (p * W) W st x x' l l' (omega arith))
 
 -- slot p of n
-pub slot-in : (p n W : ℕ) → p < n → p * W + W ≤ n * W
-slot-in p n W l = omega (arith, mul-le-mul_right W (let q : suc p ≤ n = l in q))
+pub slot_in : (p n W : ℕ) → p < n → p * W + W ≤ n * W
+slot_in p n W l = omega (arith, mul-le-mul_right W (let q : suc p ≤ n = l in q))
 
 -- ---- the spans of a slot are within ten cuts
-pub within-ten : {h : Head} {l : List ℤ} → SlotFits h l → (r : Direction) → SpanFits 10 (at l (column r)) (at l (column r + 1))
-within-ten f r =
+pub within_ten : {h : Head} {l : List ℤ} → SlotFits h l → (r : Direction) → SpanFits 10 (at l (column r)) (at l (column r + 1))
+within_ten f r =
     let s = f.spans r in
-    record { s-low = s.s-low; s-high = omega (arith, s.s-high, f.limits.depths-high r); k-low = s.k-low; k-high = s.k-high }
+    record { s_low = s.s_low; s_high = omega (arith, s.s_high, f.limits.depths_high r); k_low = s.k_low; k_high = s.k_high }
 
 -- ---- sizes as code computes them
-pub needed-is : (h : Head) {d w : ℕ} → d ≡ depth h → w ≡ width h → (d + 1) * w ≡ needed h
-needed-is h {d} {w} e f = rw (e, f, add-one (depth h)) refl
+pub needed_is : (h : Head) {d w : ℕ} → d ≡ depth h → w ≡ width h → (d + 1) * w ≡ needed h
+needed_is h {d} {w} e f = rw (e, f, add-one (depth h)) refl
 
 -- the numbers of a slot, lent as the part from 6 on
-pub rest-is : (l : List ℤ) → take (length l - 6) (drop 6 l) ≡ drop 6 l
-rest-is l = take_all (length l - 6) (drop 6 l) (simp length-drop (omega arith))
+pub rest_is : (l : List ℤ) → take (length l - 6) (drop 6 l) ≡ drop 6 l
+rest_is l = take_all (length l - 6) (drop 6 l) (simp length-drop (omega arith))
 
 -- ---- what a branch on `!r` tells of the test that r is
 pub passed : {r b : Bool} → r ≡ b → not r ≡ false → b ≡ true
@@ -84,8 +84,8 @@ pub failed : {r b : Bool} → r ≡ b → not r ≡ true → b ≡ false
 failed {r} e t = sym e ∙ not-true r t
 
 -- the test `0 <= x` of a signed number, as a branch tells it
-pub low-no : {x : ℤ} → SFits w64 x → not (le_z (pos 0) (to_z w64 (of_z w64 x))) ≡ true → le_z (pos 0) x ≡ false
-low-no f t = failed (ap (le_z (pos 0)) (to_z-of_z f)) t
+pub low_no : {x : ℤ} → SFits w64 x → not (le_z (pos 0) (to_z w64 (of_z w64 x))) ≡ true → le_z (pos 0) x ≡ false
+low_no f t = failed (ap (le_z (pos 0)) (to_z-of_z f)) t
 
-pub low-yes : {x : ℤ} → SFits w64 x → not (le_z (pos 0) (to_z w64 (of_z w64 x))) ≡ false → le_z (pos 0) x ≡ true
-low-yes f t = passed (ap (le_z (pos 0)) (to_z-of_z f)) t
+pub low_yes : {x : ℤ} → SFits w64 x → not (le_z (pos 0) (to_z w64 (of_z w64 x))) ≡ false → le_z (pos 0) x ≡ true
+low_yes f t = passed (ap (le_z (pos 0)) (to_z-of_z f)) t

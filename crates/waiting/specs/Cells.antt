@@ -8,16 +8,16 @@ use Rattle.boxes.specs.declared.visit.Sign.{Sign}
 use Rattle.boxes.specs.declared.visit.Outcome.{Outcome}
 use Rattle.system.specs.Heads.{depths, width}
 use Rattle.boxes.specs.Boxes.{direction}
-use Rattle.slots.specs.Slots.{box_in, half-slot}
+use Rattle.slots.specs.Slots.{box_in, half_slot}
 use Rattle.slots.specs.Rules.{looked}
-use Rattle.search.specs.Search.{Look, is-dropped, is-kept, is_cut}
+use Rattle.search.specs.Search.{Look, is_dropped, is_kept, is_cut}
 use Rattle.search.specs.Lent.{Slots}
 
 -- dropped by a polynomial with a sign, kept with a mark, or cut in a direction
-abbrev pub as-look : Outcome → Look (ℕ × Sign) Direction
-as-look (Outcome.Dropped p s) = is-dropped (p, s)
-as-look (Outcome.Kept mark) = is-kept mark
-as-look (Outcome.Cut r) = is_cut r
+abbrev pub as_look : Outcome → Look (ℕ × Sign) Direction
+as_look (Outcome.Dropped p s) = is_dropped (p, s)
+as_look (Outcome.Kept mark) = is_kept mark
+as_look (Outcome.Cut r) = is_cut r
 
 -- Cells that are boxes, whatever their numbers are: of a slot its box, what the rules say of it, and its halves in a direction.
 pub record Boxed (A : Type 0) : Type 0 where
@@ -35,13 +35,13 @@ cells_of K = record {
   width = K.width;
   blank = K.blank;
   place = K.box;
-  look = λ l. as-look (K.says l);
+  look = λ l. as_look (K.says l);
   half = K.half;
 }
 
 -- the boxes of a system
 abbrev pub boxed : Head → Boxed ℤ
-boxed h = record { width = width h; blank = pos 0; box = box_in; says = looked h; half = λ e r l. half-slot h e (direction r) l }
+boxed h = record { width = width h; blank = pos 0; box = box_in; says = looked h; half = λ e r l. half_slot h e (direction r) l }
 
 abbrev pub cells : Head → Slots ℤ
 cells h = cells_of (boxed h)

@@ -13,8 +13,8 @@ pub record Fit (h : Head) (cs l : List ℤ) : Type 0 where
   pub long : length l ≡ width h
   pub exact : ExactSlot h (polynomial h cs) l
   pub stored : (t : ℕ) → t < h.m → (j : Index) → (frame h).Inside j → Below (2 ^ 62) (polynomial h (numbers l) t j)
-  pub cuts-high : (r : Direction) → (box_in l ! r).cuts ≤ depths h ! r
-  pub position-high : (r : Direction) → (box_in l ! r).position < 2 ^ (box_in l ! r).cuts
+  pub cuts_high : (r : Direction) → (box_in l ! r).cuts ≤ depths h ! r
+  pub position_high : (r : Direction) → (box_in l ! r).position < 2 ^ (box_in l ! r).cuts
 
 -- one whole numerator per direction over a common whole q above 0
 pub record Point : Type 0 where
@@ -30,11 +30,11 @@ pub record CommonZero (h : Head) (cs : List ℤ) (x : Point) : Type 0 where
   pub zeros : (t : ℕ) → t < h.m → (frame h).value x.numerators x.q (polynomial h cs t) ≡ pos 0
 
 -- any numerators and any q above 0 are a point, and where all polynomials are zero is a common zero
-abbrev pub Any-point : Type 0
-Any-point = (X : Three ℤ) (q : ℤ) → pos 0 <ℤ q → (x : Point) × (x.numerators ≡ X) × (x.q ≡ q)
+abbrev pub AnyPoint : Type 0
+AnyPoint = (X : Three ℤ) (q : ℤ) → pos 0 <ℤ q → (x : Point) × (x.numerators ≡ X) × (x.q ≡ q)
 
-abbrev pub Any-zero : Type 0
-Any-zero = (h : Head) (cs : List ℤ) (x : Point) → ((t : ℕ) → t < h.m → (frame h).value x.numerators x.q (polynomial h cs t) ≡ pos 0) → CommonZero h cs x
+abbrev pub AnyZero : Type 0
+AnyZero = (h : Head) (cs : List ℤ) (x : Point) → ((t : ℕ) → t < h.m → (frame h).value x.numerators x.q (polynomial h cs t) ≡ pos 0) → CommonZero h cs x
 
 -- every rational point of b lies in c
 abbrev pub InsideBox : Head → Box → Box → Type 0

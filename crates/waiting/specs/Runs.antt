@@ -11,8 +11,8 @@ use Rattle.search.specs.Search.{Entry, entry}
 use Rattle.search.specs.Lent.{Lent, lent}
 use Rattle.waiting.specs.Cells.{Boxed, cells_of, cells}
 use Rattle.waiting.specs.States.{needed, Allowed}
-use Rattle.waiting.specs.States.{memory-of, state-of}
-use Rattle.waiting.specs.Steps.{kept_of, halted, top, due, Next, next, visit-of, seen}
+use Rattle.waiting.specs.States.{memory_of, state_of}
+use Rattle.waiting.specs.Steps.{kept_of, halted, top, due, Next, next, visit_of, seen}
 use Rattle.waiting.specs.declared.state.State.{State}
 use Rattle.waiting.specs.declared.cursor.Kept.{Kept}
 use Rattle.waiting.specs.declared.cursor.Cursor.{Cursor}
@@ -47,14 +47,14 @@ stored list n = way (set list n.cursor.at n.cursor.kept) n.store n.cursor
 pub record Visited {A : Type 0} (w : Way A) (f : Lent A Box) : Type 0 where
   pub store : w.store ≡ f.store
   pub list : w.list ≡ map forget f.list
-  pub state : w.cursor.state ≡ state-of f
+  pub state : w.cursor.state ≡ state_of f
   pub goes : w.cursor.go ≡ true
 
 -- the driver's end is the lent machine's stop: every place of both stores, the four counts and the word
 pub record Ends {A : Type 0} (w : Way A) (r : Stop (Lent A Box)) : Type 0 where
   pub store : w.store ≡ r.state.store
   pub list : w.list ≡ map forget r.state.list
-  pub state : w.cursor.state ≡ state-of r.state
+  pub state : w.cursor.state ≡ state_of r.state
   pub word : w.cursor.word ≡ word_of r.answer
 
 module _ {A : Type 0} (K : Boxed A) where
@@ -69,28 +69,28 @@ module _ {A : Type 0} (K : Boxed A) where
 
   -- One turn from a cursor with some budget is one turn of the lent machine: where nothing waits, or the list has no room for the box, nothing changes; else
   -- the top box is visited, and the visit is told: that box, and what the rules say of it.
-  abbrev pub One-turn : List (Entry Box) → List A → Cursor → Turn → Type 0
-  One-turn list st c nothing = turned (way (map forget list) st c) ≡ way (map forget list) st (halted c Word.Finished)
-  One-turn list st c no_room = turned (way (map forget list) st c) ≡ way (map forget list) st (halted c Word.Full)
-  One-turn list st c go =
-      Visited (turned (way (map forget list) st c)) ((lent (cells_of K)).visit (memory-of st list c.state))
-      × (seen K st c (due K st c) ≡ visit-of K (top K st c.state) (K.says (top K st c.state)))
+  abbrev pub OneTurn : List (Entry Box) → List A → Cursor → Turn → Type 0
+  OneTurn list st c nothing = turned (way (map forget list) st c) ≡ way (map forget list) st (halted c Word.Finished)
+  OneTurn list st c no_room = turned (way (map forget list) st c) ≡ way (map forget list) st (halted c Word.Full)
+  OneTurn list st c go =
+      Visited (turned (way (map forget list) st c)) ((lent (cells_of K)).visit (memory_of st list c.state))
+      × (seen K st c (due K st c) ≡ visit_of K (top K st c.state) (K.says (top K st c.state)))
 
-abbrev pub Turn-turns : Type 1
-Turn-turns = (A : Type 0) (K : Boxed A) (list : List (Entry Box)) (st : List A) (c : Cursor) → 1 ≤ c.left → c.room ≡ length list → c.state.kept ≤ c.room
-    → One-turn K list st c ((lent (cells_of K)).turn c.room (memory-of st list c.state))
+abbrev pub TurnTurns : Type 1
+TurnTurns = (A : Type 0) (K : Boxed A) (list : List (Entry Box)) (st : List A) (c : Cursor) → 1 ≤ c.left → c.room ≡ length list → c.state.kept ≤ c.room
+    → OneTurn K list st c ((lent (cells_of K)).turn c.room (memory_of st list c.state))
 
 -- With one turn more than the budget a driver ends where `drive` stops, for every list of entries that the records are.
-abbrev pub Run-drives : Type 1
-Run-drives = (A : Type 0) (K : Boxed A) (list : List (Entry Box)) (st : List A) (c : Cursor) → c.go ≡ true → c.room ≡ length list → c.state.kept ≤ c.room
-    → Ends (went K (suc c.left) (way (map forget list) st c)) (drive (lent (cells_of K)) c.left c.room (memory-of st list c.state))
+abbrev pub RunDrives : Type 1
+RunDrives = (A : Type 0) (K : Boxed A) (list : List (Entry Box)) (st : List A) (c : Cursor) → c.go ≡ true → c.room ≡ length list → c.state.kept ≤ c.room
+    → Ends (went K (suc c.left) (way (map forget list) st c)) (drive (lent (cells_of K)) c.left c.room (memory_of st list c.state))
 
 -- Every stop of a run from an allowed state is allowed again, as long as its visits stay within 2^31 - 1.
 pub record Stays (h : Head) (room : ℕ) (f : Lent ℤ Box) : Type 0 where
   pub long : needed h ≤ length f.store
   pub places : length f.list ≡ room
-  pub allowed : f.visits ≤ 2147483647 → Allowed h (state-of f) f.store room
+  pub allowed : f.visits ≤ 2147483647 → Allowed h (state_of f) f.store room
 
-abbrev pub Stops-allowed : Type 0
-Stops-allowed = (h : Head) (s : State) (st : List ℤ) (list : List (Entry Box)) → Limits h → needed h ≤ length st → Allowed h s st (length list)
-    → (budget : ℕ) → Stays h (length list) (drive (lent (cells h)) budget (length list) (memory-of st list s)).state
+abbrev pub StopsAllowed : Type 0
+StopsAllowed = (h : Head) (s : State) (st : List ℤ) (list : List (Entry Box)) → Limits h → needed h ≤ length st → Allowed h s st (length list)
+    → (budget : ℕ) → Stays h (length list) (drive (lent (cells h)) budget (length list) (memory_of st list s)).state

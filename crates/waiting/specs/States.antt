@@ -12,7 +12,7 @@ use Rattle.system.specs.declared.head.Checked.{Checked}
 use Rattle.system.specs.Directions.{each}
 use Rattle.system.specs.Heads.{depths, depth, width, Limits, checked}
 use Rattle.slots.specs.Slots.{at, column, box_in, numbers, SpanFits, SlotFits}
-use Rattle.slots.specs.Rules.{every, within, can-cut}
+use Rattle.slots.specs.Rules.{every, within, can_cut}
 use Rattle.search.specs.Search.{Entry}
 use Rattle.search.specs.Lent.{slot, Lent, memory}
 use Rattle.system.specs.Chain.{test, ◌then◌}
@@ -32,53 +32,53 @@ abbrev pub needed : Head → ℕ
 needed h = suc (depth h) * width h
 
 -- ---- a state as the counts of lent memory
-abbrev pub memory-of : {A : Type 0} → List A → List (Entry Box) → State → Lent A Box
-memory-of st list s = memory st list s.waiting s.kept s.visits s.dropped
+abbrev pub memory_of : {A : Type 0} → List A → List (Entry Box) → State → Lent A Box
+memory_of st list s = memory st list s.waiting s.kept s.visits s.dropped
 
-abbrev pub state-of : {A : Type 0} → Lent A Box → State
-state-of f = record { waiting = f.waiting; kept = f.kept; visits = f.visits; dropped = f.dropped }
+abbrev pub state_of : {A : Type 0} → Lent A Box → State
+state_of f = record { waiting = f.waiting; kept = f.kept; visits = f.visits; dropped = f.dropped }
 
 -- ---- as tests
 -- a bad s or k: s above g, k not below 2^s, a negative one
-unfoldable pub span-ok : ℕ → ℤ → ℤ → Bool
-span-ok g s k = le_z (pos 0) s && leb (nat_abs s) g && le_z (pos 0) k && ltb (nat_abs k) (2 ^ nat_abs s)
+unfoldable pub span_ok : ℕ → ℤ → ℤ → Bool
+span_ok g s k = le_z (pos 0) s && leb (nat_abs s) g && le_z (pos 0) k && ltb (nat_abs k) (2 ^ nat_abs s)
 
 -- the slot l, as slot p
 unfoldable pub slot_ok : Head → ℕ → List ℤ → Bool
-slot_ok h p l = each (λ r. span-ok (depths h ! r) (at l (column r)) (at l (column r + 1))) && every (within most) (numbers l) && leb p (cuts l)
+slot_ok h p l = each (λ r. span_ok (depths h ! r) (at l (column r)) (at l (column r + 1))) && every (within most) (numbers l) && leb p (cuts l)
 
 -- the waiting slots, from slot 0 on
-unfoldable pub slots-ok : Head → (waiting : ℕ) → List ℤ → Bool
-slots-ok h zero st = true
-slots-ok h (suc p) st = slots-ok h p st && slot_ok h p (slot (width h) p st)
+unfoldable pub slots_ok : Head → (waiting : ℕ) → List ℤ → Bool
+slots_ok h zero st = true
+slots_ok h (suc p) st = slots_ok h p st && slot_ok h p (slot (width h) p st)
 
-unfoldable pub counts-ok : Head → State → Bool
-counts-ok h s = leb s.waiting (suc (depth h)) && leb s.dropped s.visits && leb s.visits 2147483647
+unfoldable pub counts_ok : Head → State → Bool
+counts_ok h s = leb s.waiting (suc (depth h)) && leb s.dropped s.visits && leb s.visits 2147483647
 
 -- the list, record by record: as many as were kept are there
-unfoldable pub records-ok : (kept : ℕ) → List Kept → Bool
-records-ok zero list = true
-records-ok (suc n) [] = false
-records-ok (suc n) (k ∷ list) = records-ok n list
+unfoldable pub records_ok : (kept : ℕ) → List Kept → Bool
+records_ok zero list = true
+records_ok (suc n) [] = false
+records_ok (suc n) (k ∷ list) = records_ok n list
 
-unfoldable pub list-ok : State → List Kept → Bool
-list-ok s list = records-ok s.kept list
+unfoldable pub list_ok : State → List Kept → Bool
+list_ok s list = records_ok s.kept list
 
 -- the tests in order, by what is found of the list
-unfoldable pub judged-by : Head → State → List ℤ → (listed : Bool) → Checked
-judged-by h s st listed =
+unfoldable pub judged_by : Head → State → List ℤ → (listed : Bool) → Checked
+judged_by h s st listed =
     checked h
     then test (leb (needed h) (length st)) Refusal.TooShort 0
-    then test (counts-ok h s) Refusal.OutsideRules 0
-    then test (slots-ok h s.waiting st) Refusal.OutsideRules 0
+    then test (counts_ok h s) Refusal.OutsideRules 0
+    then test (slots_ok h s.waiting st) Refusal.OutsideRules 0
     then test listed Refusal.OutsideRules 0
 
 abbrev pub judged : Head → State → List ℤ → List Kept → Checked
-judged h s st list = judged-by h s st (list-ok s list)
+judged h s st list = judged_by h s st (list_ok s list)
 
 -- By the number of records `check` answers what is judged of them, whatever they are.
-abbrev pub Judged-by-number : Type 0
-Judged-by-number = (h : Head) (s : State) (st : List ℤ) (list : List Kept) → judged-by h s st (leb s.kept (length list)) ≡ judged h s st list
+abbrev pub JudgedByNumber : Type 0
+JudgedByNumber = (h : Head) (s : State) (st : List ℤ) (list : List Kept) → judged_by h s st (leb s.kept (length list)) ≡ judged h s st list
 
 -- ---- as facts
 pub record SlotAllowed (h : Head) (p : ℕ) (l : List ℤ) : Type 0 where
@@ -87,19 +87,19 @@ pub record SlotAllowed (h : Head) (p : ℕ) (l : List ℤ) : Type 0 where
   pub deep : p ≤ cuts l
 
 pub record Allowed (h : Head) (s : State) (st : List ℤ) (room : ℕ) : Type 0 where
-  pub waiting-high : s.waiting ≤ suc (depth h)
+  pub waiting_high : s.waiting ≤ suc (depth h)
   pub kept_high : s.kept ≤ room
-  pub dropped-high : s.dropped ≤ s.visits
-  pub visits-high : s.visits ≤ 2147483647
+  pub dropped_high : s.dropped ≤ s.visits
+  pub visits_high : s.visits ≤ 2147483647
   pub slots : (p : ℕ) → p < s.waiting → SlotAllowed h p (slot (width h) p st)
 
 -- A state is let through exactly if the head is within limits, the store is long enough, and the rules allow the state.
-abbrev pub Judged-allowed : Type 0
-Judged-allowed = (h : Head) (s : State) (st : List ℤ) (list : List Kept)
+abbrev pub JudgedAllowed : Type 0
+JudgedAllowed = (h : Head) (s : State) (st : List ℤ) (list : List Kept)
     → (judged h s st list ≡ Checked.Good) ↔ (Limits h × (needed h ≤ length st) × Allowed h s st (length list))
 
 -- A slot that may be cut in direction r, as `cut` asks it.
 pub record MayCut (h : Head) (r : Half.Direction) (l : List ℤ) : Type 0 where
   pub fits : SlotFits h l
   pub below : (box_in l ! direction r).cuts < depths h ! direction r
-  pub can : can-cut h (direction r) l ≡ true
+  pub can : can_cut h (direction r) l ≡ true

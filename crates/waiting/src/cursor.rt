@@ -1,7 +1,7 @@
 // Where a run stands, by value: the state, what is left of the budget, and which record goes where in the list.
 ghost use Rattle.std.specs.Prelude.{◌≡◌, ◌≤◌};
-ghost use Rattle.boxes.specs.Boxes.{as-box};
-ghost use Rattle.waiting.specs.Steps.{kept_of, nothing-kept, begun, halted, gone-on};
+ghost use Rattle.boxes.specs.Boxes.{as_box};
+ghost use Rattle.waiting.specs.Steps.{kept_of, nothing_kept, begun, halted, gone_on};
 
 use crate::state::State;
 use boxes::half::Box;
@@ -35,7 +35,7 @@ pub struct Cursor {
 }
 
 pub fn listed(b: Box, mark: u8) -> Kept
-    ensures { result ≡ kept_of (as-box b) mark }
+    ensures { result ≡ kept_of (as_box b) mark }
 {
     Kept {
         s1: b.s1,
@@ -49,7 +49,7 @@ pub fn listed(b: Box, mark: u8) -> Kept
 }
 
 pub fn nothing_kept() -> Kept
-    ensures { result ≡ nothing-kept }
+    ensures { result ≡ nothing_kept }
 {
     Kept {
         s1: 0,
@@ -98,7 +98,7 @@ pub fn halt(c: Cursor, w: Word) -> Cursor
 // A visit made.
 pub fn go_on(c: Cursor, s: State, at: usize, kept: Kept) -> Cursor
     requires { 1 ≤ c.left }
-    ensures { result ≡ gone-on c s at kept }
+    ensures { result ≡ gone_on c s at kept }
 {
     let w = c.word;
     Cursor {

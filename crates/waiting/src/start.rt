@@ -3,7 +3,7 @@ ghost use Rattle.std.specs.Prelude.{◌≡◌, true, ◌≤◌, length, take};
 ghost use Rattle.system.specs.Heads.{places, Limits};
 ghost use Rattle.slots.specs.Rules.{every, within};
 ghost use Rattle.waiting.specs.States.{needed};
-ghost use Rattle.waiting.specs.Starts.{start-check, fresh-state, fresh-store, start-answer, start-store};
+ghost use Rattle.waiting.specs.Starts.{start_check, fresh_state, fresh_store, start_answer, start_store};
 
 use crate::state::{State, refuse};
 use crate::store::long_enough;
@@ -19,7 +19,7 @@ pub enum Started {
 
 // 4, 9 for short coefficients, 6, 9 for a short store.
 fn check_start(h: Head, coefficients: &[i64], store: &[i64]) -> Checked
-    ensures { result ≡ start-check h coefficients.now store.now }
+    ensures { result ≡ start_check h coefficients.now store.now }
 {
     if !h.ok() {
         return refuse(Refusal::OutOfLimits);
@@ -39,7 +39,7 @@ fn check_start(h: Head, coefficients: &[i64], store: &[i64]) -> Checked
 
 fn fill(h: Head, coefficients: &[i64], store: &mut [i64])
     requires { Limits h × (places h ≤ length coefficients.now) × (every (within 1000000000) (take (places h) coefficients.now) ≡ true) × (needed h ≤ length store.old) }
-    ensures { store.new ≡ fresh-store h coefficients.now store.old }
+    ensures { store.new ≡ fresh_store h coefficients.now store.old }
 {
     let w = h.width();
     let stop = w + h.depth() * w;
@@ -48,7 +48,7 @@ fn fill(h: Head, coefficients: &[i64], store: &mut [i64])
 }
 
 pub fn start(h: Head, coefficients: &[i64], store: &mut [i64]) -> Started
-    ensures { (result ≡ start-answer (start-check h coefficients.now store.old)) × (store.new ≡ start-store h coefficients.now store.old (start-check h coefficients.now store.old)) }
+    ensures { (result ≡ start_answer (start_check h coefficients.now store.old)) × (store.new ≡ start_store h coefficients.now store.old (start_check h coefficients.now store.old)) }
 {
     let found = check_start(h, coefficients, store);
     match found {

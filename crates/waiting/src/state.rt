@@ -1,6 +1,6 @@
 // The state of a run, and its check against the head, the waiting store and the list.
 ghost use Rattle.std.specs.Prelude.{◌≡◌, leb};
-ghost use Rattle.waiting.specs.States.{counts-ok, judged-by};
+ghost use Rattle.waiting.specs.States.{counts_ok, judged_by};
 ghost use Rattle.system.specs.Chain.{refused};
 
 use crate::store::{long_enough, slots_ok};
@@ -23,7 +23,7 @@ pub fn refuse(why: Refusal) -> Checked
 }
 
 fn counts_ok(h: Head, s: State) -> bool
-    ensures { result ≡ counts-ok h s }
+    ensures { result ≡ counts_ok h s }
 {
     if s.waiting > h.depth() + 1 {
         return false;
@@ -36,7 +36,7 @@ fn counts_ok(h: Head, s: State) -> bool
 
 // 4, 9, 10, in this order; of the list, whatever its records, that it has room for those kept.
 pub fn check(h: Head, s: State, store: &[i64], room: usize) -> Checked
-    ensures { result ≡ judged-by h s store.now (leb s.kept room) }
+    ensures { result ≡ judged_by h s store.now (leb s.kept room) }
 {
     if !h.ok() {
         return refuse(Refusal::OutOfLimits);

@@ -1,7 +1,7 @@
 // One visit, and one step of a run, on the store and a cursor by value.
 ghost use Rattle.std.specs.Prelude.{◌≡◌};
 ghost use Rattle.waiting.specs.Cells.{boxed};
-ghost use Rattle.waiting.specs.Steps.{halted, for-room, due, moved, next, no-visit, seen, Ready, MayVisit};
+ghost use Rattle.waiting.specs.Steps.{halted, for_room, due, moved, next, no_visit, seen, Ready, MayVisit};
 
 use crate::cursor::{Cursor, go_on, halt, listed, nothing_kept};
 use crate::state::State;
@@ -25,7 +25,7 @@ pub struct Made {
 }
 
 fn for_room(what: Outcome, kept: usize, room: usize) -> Due
-    ensures { result ≡ for-room kept room what }
+    ensures { result ≡ for_room kept room what }
 {
     match what {
         Outcome::Kept(mark) => {
@@ -97,7 +97,7 @@ pub fn step(store: &mut [i64], h: Head, c: Cursor) -> Cursor
 }
 
 fn not_made(c: Cursor, w: Word) -> Made
-    ensures { (result.cursor ≡ halted c w) × (result.visit ≡ no-visit) }
+    ensures { (result.cursor ≡ halted c w) × (result.visit ≡ no_visit) }
 {
     let cursor = halt(c, w);
     let none = Visit {

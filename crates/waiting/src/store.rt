@@ -2,12 +2,12 @@
 ghost use Rattle.std.specs.Prelude.{◌≡◌, suc, ◌+◌, ◌*◌, ◌^◌, ◌≤◌, ◌<◌, leb, nat_abs, length};
 ghost use Rattle.whole.specs.Half.{lower, upper};
 ghost use Rattle.system.specs.Heads.{width, Limits};
-ghost use Rattle.boxes.specs.Boxes.{direction, from-box};
-ghost use Rattle.slots.specs.Slots.{at, box_in, half-slot, SlotFits};
+ghost use Rattle.boxes.specs.Boxes.{direction, from_box};
+ghost use Rattle.slots.specs.Slots.{at, box_in, half_slot, SlotFits};
 ghost use Rattle.slots.specs.Rules.{looked};
-ghost use Rattle.search.specs.Lent.{slot, in-slot, given-up};
+ghost use Rattle.search.specs.Lent.{slot, in_slot, given_up};
 ghost use Rattle.waiting.specs.Cells.{cells};
-ghost use Rattle.waiting.specs.States.{needed, span-ok, slot_ok, slots-ok};
+ghost use Rattle.waiting.specs.States.{needed, span_ok, slot_ok, slots_ok};
 ghost use Rattle.waiting.specs.States.{MayCut};
 
 use boxes::half::{Box, Direction};
@@ -46,7 +46,7 @@ fn count(slot: &[i64], i: usize) -> u64
 // Whether s and k are those of a direction of depth g.
 fn span_ok(s: i64, k: i64, g: u8) -> bool
     requires { g ≤ 10 }
-    ensures { result ≡ span-ok g s k }
+    ensures { result ≡ span_ok g s k }
 {
     if !(0 <= s) {
         return false;
@@ -63,7 +63,7 @@ fn span_ok(s: i64, k: i64, g: u8) -> bool
 
 fn span_at(slot: &[i64], i: usize, g: u8) -> bool
     requires { (g ≤ 10) × (i + 1 < length slot.now) }
-    ensures { result ≡ span-ok g (at slot.now i) (at slot.now (i + 1)) }
+    ensures { result ≡ span_ok g (at slot.now i) (at slot.now (i + 1)) }
 {
     span_ok(slot[i], slot[i + 1], g)
 }
@@ -100,7 +100,7 @@ fn ok_at(store: &[i64], h: Head, p: usize) -> bool
 // Whether the waiting slots, from slot 0 on, are allowed.
 pub fn slots_ok(store: &[i64], h: Head, waiting: usize) -> bool
     requires { Limits h × (waiting * width h ≤ length store.now) }
-    ensures { result ≡ slots-ok h waiting store.now }
+    ensures { result ≡ slots_ok h waiting store.now }
 {
     let mut p = 0;
     while p < waiting {
@@ -115,7 +115,7 @@ pub fn slots_ok(store: &[i64], h: Head, waiting: usize) -> bool
 // ---- what is read off a slot
 pub fn box_at(store: &[i64], h: Head, p: usize) -> Box
     requires { (p * width h + width h ≤ length store.now) × SlotFits h (slot (width h) p store.now) }
-    ensures { result ≡ from-box (box_in (slot (width h) p store.now)) }
+    ensures { result ≡ from_box (box_in (slot (width h) p store.now)) }
 {
     let start = start_of(h, p);
     let stop = start + h.width();
@@ -134,7 +134,7 @@ pub fn look_at(store: &[i64], h: Head, p: usize) -> Outcome
 // ---- what is made of a slot
 pub fn give_up(store: &mut [i64], h: Head, p: usize)
     requires { p * width h + width h ≤ length store.old }
-    ensures { store.new ≡ given-up (cells h) p store.old }
+    ensures { store.new ≡ given_up (cells h) p store.old }
 {
     let start = start_of(h, p);
     let stop = start + h.width();
@@ -144,7 +144,7 @@ pub fn give_up(store: &mut [i64], h: Head, p: usize)
 // The upper half takes the slot, the lower half goes into the slot above.
 pub fn cut_at(store: &mut [i64], h: Head, p: usize, r: Direction)
     requires { (p * width h + width h + width h ≤ length store.old) × MayCut h r (slot (width h) p store.old) }
-    ensures { store.new ≡ in-slot (cells h) (suc p) (half-slot h lower (direction r) (slot (width h) p store.old)) (in-slot (cells h) p (half-slot h upper (direction r) (slot (width h) p store.old)) store.old) }
+    ensures { store.new ≡ in_slot (cells h) (suc p) (half_slot h lower (direction r) (slot (width h) p store.old)) (in_slot (cells h) p (half_slot h upper (direction r) (slot (width h) p store.old)) store.old) }
 {
     let w = h.width();
     let start = start_of(h, p);

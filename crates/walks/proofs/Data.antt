@@ -41,8 +41,8 @@ pub record Datum : Type 3 where
   pub quiet : (k : Kept) (x : row.Denot) (f : Last (row.exit k) x) → left (row.exit k) x f ≡ ftrue
 
 -- of a type that is left as it was, a contract says nothing
-abbrev still-quiet : {X : Type 0} (e : Exit X) → e ≡ unchanged → (x : X) (f : Last e x) → left e x f ≡ ftrue
-still-quiet {X} e p = subst (λ (e' : Exit X). (x : X) (f : Last e' x) → left e' x f ≡ ftrue) (sym p) (λ x f. refl)
+abbrev still_quiet : {X : Type 0} (e : Exit X) → e ≡ unchanged → (x : X) (f : Last e x) → left e x f ≡ ftrue
+still_quiet {X} e p = subst (λ (e' : Exit X). (x : X) (f : Last e' x) → left e' x f ≡ ftrue) (sym p) (λ x f. refl)
 
 abbrev pub number : Width → Datum
 number w = record { row = UInt w; val = vint w; tells = uint_Tells w; makes = λ 𝓛. uint_Makes 𝓛 w; lawful = λ 𝓛. uint_Lawful 𝓛 w; quiet = λ k x f. refl }
@@ -51,10 +51,10 @@ abbrev pub nothing : Datum
 nothing = record { row = Nothing; val = λ _. vunit; tells = Nothing-Tells; makes = λ 𝓛. Nothing-Makes 𝓛; lawful = λ 𝓛. Nothing-Lawful 𝓛; quiet = λ k x f. refl }
 
 abbrev pub structure : (T : struct.Declared) → LL.Laws T → Plains (struct.fields T) → LL.Copyables T.parts → Datum
-structure T L P C = record { row = struct.row T; val = LL.val T L; tells = LL.tells T L; makes = λ 𝓛. LL.makes T P 𝓛; lawful = λ 𝓛. LL.lawful T L 𝓛; quiet = λ k. still-quiet ((struct.row T).exit k) (LL.still T C k) }
+structure T L P C = record { row = struct.row T; val = LL.val T L; tells = LL.tells T L; makes = λ 𝓛. LL.makes T P 𝓛; lawful = λ 𝓛. LL.lawful T L 𝓛; quiet = λ k. still_quiet ((struct.row T).exit k) (LL.still T C k) }
 
 abbrev pub variant : (T : enum.Declared) → EL.Laws T → Plainss (enum.variants T) → EL.Copyabless T.parts → Few (enum.shape T) → Datum
-variant T L P C few = record { row = enum.row T; val = EL.val T L; tells = EL.tells T L; makes = λ 𝓛. EL.makes T P 𝓛; lawful = λ 𝓛. EL.lawful T L 𝓛 few; quiet = λ k. still-quiet ((enum.row T).exit k) (EL.still T C k) }
+variant T L P C few = record { row = enum.row T; val = EL.val T L; tells = EL.tells T L; makes = λ 𝓛. EL.makes T P 𝓛; lawful = λ 𝓛. EL.lawful T L 𝓛 few; quiet = λ k. still_quiet ((enum.row T).exit k) (EL.still T C k) }
 
 abbrev pub Has : (d : Datum) → d.row.Denot → Val → Type 0
 Has d x w = (w ≡ d.val x) × Is d.row x (d.val x ∷ [])
@@ -69,8 +69,8 @@ pub typed : (d : Datum) {M : Type 1} {𝓤 : Ura M} (𝓛 : Logic 𝓤) → (x :
 typed d 𝓛 x is = (d.lawful 𝓛).typed x (d.val x ∷ []) is
 
 -- the machine value of a slice is of its type
-pub slice-typed : (R : RattleType) {n : ℕ} (p : ℕ × ℕ) → Room R n → Unit {0} × WT (slice_val p n)
-slice-typed R p room = (tt, (tt, (record { fits = room.0 }, tt)))
+pub slice_typed : (R : RattleType) {n : ℕ} (p : ℕ × ℕ) → Room R n → Unit {0} × WT (slice_val p n)
+slice_typed R p room = (tt, (tt, (record { fits = room.0 }, tt)))
 
 abbrev pub rows : List Datum → List RattleType
 rows [] = []

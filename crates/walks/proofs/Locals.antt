@@ -190,9 +190,9 @@ module _ {M : Type 1} {𝓤 : Ura M} {𝓛 : Logic 𝓤} {K : Type 0} {Γ : List
         → Step K 𝓛 (put 𝓛 (k + 2 * i) (‵ (fat full_share (spot_of 𝓤 H E i).0 (spot_of 𝓤 H E i).1 0 v)) Γ) (runs C Λ E rest q) Γ (lands C Λ E (place i []) v rest q)
     replaces t k {i} e wt = land t (from t (stop t)) (store t (k + 2 * i) e wt)
 
-    pub receives-last : K → (k : ℕ) {i : ℕ} {q : Post 𝓤 H} {v : Val} → nth 𝓛 (k + 2 * i) Γ ≡ ‵ (froom (spot_of 𝓤 H E i).0 (spot_of 𝓤 H E i).1 0) → Holds (has_ty (spot_of 𝓤 H E i).0 v) × WT v
+    pub receives_last : K → (k : ℕ) {i : ℕ} {q : Post 𝓤 H} {v : Val} → nth 𝓛 (k + 2 * i) Γ ≡ ‵ (froom (spot_of 𝓤 H E i).0 (spot_of 𝓤 H E i).1 0) → Holds (has_ty (spot_of 𝓤 H E i).0 v) × WT v
         → Step K 𝓛 (put 𝓛 (k + 2 * i) (‵ (fat full_share (spot_of 𝓤 H E i).0 (spot_of 𝓤 H E i).1 0 v)) Γ) (prop (post 𝓤 H q next)) Γ (settles E (place i []) v q)
-    receives-last t k {i} e wt = land_last t (from t (stop t)) (init t (k + 2 * i) e wt)
+    receives_last t k {i} e wt = land_last t (from t (stop t)) (init t (k + 2 * i) e wt)
 
     pub tests : K → (𝓣 : Tables 𝓤 H) {q : Post 𝓤 H} {o : Operand} {a b rest : Body} {y : Bool} → Opd K 𝓛 Γ E o (vbool y) → (Holds y → Seq K 𝓛 Γ (runs 𝓣.C 𝓣.Λ E (a then rest) q)) → (Holds (not y) → Seq K 𝓛 Γ (runs 𝓣.C 𝓣.Λ E (b then rest) q))
         → Seq K 𝓛 Γ (runs 𝓣.C 𝓣.Λ E (seq (cond o a b) rest) q)

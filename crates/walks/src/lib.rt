@@ -1,1 +1,2 @@
 // No code: what the walks by hand of the crates above share stands in proofs/.
+#![tactic(auto)]

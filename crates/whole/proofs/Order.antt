@@ -11,7 +11,7 @@ use lib.Arith.{le→nltb}
 use lib.IntN.{ℤ, pos, negsuc, suc_ℤ, neg_ℤ, nat_abs, sub_ℕ, ◌+ℤ◌, ◌-ℤ◌, ◌*ℤ◌, +ℤ_idl, +ℤ_assoc, +ℤ_one}
 use lib.Signed.{◌≤ℤ◌, ◌<ℤ◌, le_z, lt_z, ≤ℤ_refl, <ℤ-≤ℤ_trans, clash_ℤ}
 use Rattle.whole.proofs.Ring.{+ℤ-cancel-r}
-use Rattle.whole.proofs.Quote.{ring, reads, Sides, Agree, sides-eq}
+use Rattle.whole.proofs.Quote.{ring, reads, Sides, Agree, sides_eq}
 
 -- ---- a − b of naturals, by which is greater
 cond_yes : (c : Bool) (x y : ℤ) → T c → cond c x y ≡ x
@@ -26,18 +26,18 @@ pub cond_ind : (c : Bool) (x y : ℤ) (P : ℤ → Type 0) → (T c → P x) →
 cond_ind true x y P f g = f tt
 cond_ind false x y P f g = g tt
 
-pub subℕ-ge : (a b : ℕ) → b ≤ a → sub_ℕ a b ≡ pos (a - b)
-subℕ-ge a b h = cond_no (ltb a b) (negsuc (b - suc a)) (pos (a - b)) (le→nltb a b h)
+pub subℕ_ge : (a b : ℕ) → b ≤ a → sub_ℕ a b ≡ pos (a - b)
+subℕ_ge a b h = cond_no (ltb a b) (negsuc (b - suc a)) (pos (a - b)) (le→nltb a b h)
 
-pub subℕ-lt : (a b : ℕ) → a < b → sub_ℕ a b ≡ negsuc (b - suc a)
-subℕ-lt a b h = cond_yes (ltb a b) (negsuc (b - suc a)) (pos (a - b)) (lt→ltb a b h)
+pub subℕ_lt : (a b : ℕ) → a < b → sub_ℕ a b ≡ negsuc (b - suc a)
+subℕ_lt a b h = cond_yes (ltb a b) (negsuc (b - suc a)) (pos (a - b)) (lt→ltb a b h)
 
 -- ---- an order is a natural number added
 dest' : (a b : ℤ) → T (le_z a b) → (k : ℕ) × (b ≡ a +ℤ pos k)
 dest' (pos a) (pos b) t = (b - a, let h : a ≤ b = leb→le a b t in ap pos (omega arith))
 dest' (pos a) (negsuc b) t = absurd t
-dest' (negsuc a) (pos b) t = (suc a + b, sym (subℕ-ge (suc a + b) (suc a) (omega arith) ∙ ap pos (omega arith)))
-dest' (negsuc a) (negsuc b) t = (a - b, let h : b ≤ a = leb→le b a t in sym (subℕ-lt (a - b) (suc a) (omega arith) ∙ ap negsuc (omega arith)))
+dest' (negsuc a) (pos b) t = (suc a + b, sym (subℕ_ge (suc a + b) (suc a) (omega arith) ∙ ap pos (omega arith)))
+dest' (negsuc a) (negsuc b) t = (a - b, let h : b ≤ a = leb→le b a t in sym (subℕ_lt (a - b) (suc a) (omega arith) ∙ ap negsuc (omega arith)))
 
 pub ≤ℤ-dest : {a b : ℤ} → a ≤ℤ b → (k : ℕ) × (b ≡ a +ℤ pos k)
 ≤ℤ-dest {a} {b} h = dest' a b h.le
@@ -51,19 +51,19 @@ pub ≤ℤ-intro : {a b : ℤ} (k : ℕ) → b ≡ a +ℤ pos k → a ≤ℤ b
 ≤ℤ-intro {a} {b} k e = record { le = subst (λ z. T (le_z a z)) (sym e) (intro' a k) }
 
 -- ---- the strict order is the order from the successor
-lt-is : (a b : ℤ) → lt_z a b ≡ le_z (suc_ℤ a) b
-lt-is (pos a) (pos b) = refl
-lt-is (pos a) (negsuc b) = refl
-lt-is (negsuc zero) (pos b) = sym (leb-zero b)
-lt-is (negsuc (suc a)) (pos b) = refl
-lt-is (negsuc zero) (negsuc b) = leb-suc-zero b
-lt-is (negsuc (suc a)) (negsuc b) = leb-suc-suc b a
+lt_is : (a b : ℤ) → lt_z a b ≡ le_z (suc_ℤ a) b
+lt_is (pos a) (pos b) = refl
+lt_is (pos a) (negsuc b) = refl
+lt_is (negsuc zero) (pos b) = sym (leb-zero b)
+lt_is (negsuc (suc a)) (pos b) = refl
+lt_is (negsuc zero) (negsuc b) = leb-suc-zero b
+lt_is (negsuc (suc a)) (negsuc b) = leb-suc-suc b a
 
 pub <ℤ-suc : {a b : ℤ} → a <ℤ b → (a +ℤ pos 1) ≤ℤ b
-<ℤ-suc {a} {b} h = record { le = subst (λ z. T (le_z z b)) (sym (+ℤ_one a)) (subst T (lt-is a b) h.lt) }
+<ℤ-suc {a} {b} h = record { le = subst (λ z. T (le_z z b)) (sym (+ℤ_one a)) (subst T (lt_is a b) h.lt) }
 
 pub suc-<ℤ : {a b : ℤ} → (a +ℤ pos 1) ≤ℤ b → a <ℤ b
-suc-<ℤ {a} {b} h = record { lt = subst T (sym (lt-is a b)) (subst (λ z. T (le_z z b)) (+ℤ_one a) h.le) }
+suc-<ℤ {a} {b} h = record { lt = subst T (sym (lt_is a b)) (subst (λ z. T (le_z z b)) (+ℤ_one a) h.le) }
 
 pub <ℤ-dest : {a b : ℤ} → a <ℤ b → (k : ℕ) × (b ≡ a +ℤ pos (suc k))
 <ℤ-dest {a} {b} h =
@@ -101,12 +101,12 @@ pub ≤ℤ-antisym : {a b : ℤ} → a ≤ℤ b → b ≤ℤ a → a ≡ b
 ≤ℤ-antisym {a = negsuc a} {b = negsuc b} h k = ap negsuc (NatL.le_antisymm (leb→le a b k.le) (leb→le b a h.le))
 
 -- ---- decision: total, and by three cases
-by-test : (b : Bool) → T b ⊎ T (not b)
-by-test true = inl tt
-by-test false = inr tt
+by_test : (b : Bool) → T b ⊎ T (not b)
+by_test true = inl tt
+by_test false = inr tt
 
 pub ≤ℤ-or-<ℤ : (a b : ℤ) → (a ≤ℤ b) ⊎ (b <ℤ a)
-≤ℤ-or-<ℤ a b = go (by-test (lt_z b a))
+≤ℤ-or-<ℤ a b = go (by_test (lt_z b a))
   where
     go : T (lt_z b a) ⊎ T (not (lt_z b a)) → (a ≤ℤ b) ⊎ (b <ℤ a)
     go (inl t) = inr (record { lt = t })
@@ -117,12 +117,12 @@ pub ≤ℤ-or-<ℤ : (a b : ℤ) → (a ≤ℤ b) ⊎ (b <ℤ a)
 pub ≤-by : (ρ : List ℤ) {x y u v : ℤ} → u ≤ℤ v → (s : Sides ρ (x +ℤ v) (y +ℤ u)) → Agree s → x ≤ℤ y
 ≤-by ρ {x} {y} {u} {v} h s e =
     let d = ≤ℤ-dest h in
-    ≤ℤ-intro d.0 (+ℤ-cancel-r y (x +ℤ pos d.0) u (sym (sides-eq s e) ∙ ap (λ z. x +ℤ z) d.1 ∙ ring (x ∷ u ∷ pos d.0 ∷ []) (search reads depth 20) tt))
+    ≤ℤ-intro d.0 (+ℤ-cancel-r y (x +ℤ pos d.0) u (sym (sides_eq s e) ∙ ap (λ z. x +ℤ z) d.1 ∙ ring (x ∷ u ∷ pos d.0 ∷ []) (search reads depth 20) tt))
 
 pub <-by : (ρ : List ℤ) {x y u v : ℤ} → u <ℤ v → (s : Sides ρ (x +ℤ v) (y +ℤ u)) → Agree s → x <ℤ y
 <-by ρ {x} {y} {u} {v} h s e =
     let d = <ℤ-dest h in
-    <ℤ-intro d.0 (+ℤ-cancel-r y (x +ℤ pos (suc d.0)) u (sym (sides-eq s e) ∙ ap (λ z. x +ℤ z) d.1 ∙ ring (x ∷ u ∷ pos (suc d.0) ∷ []) (search reads depth 20) tt))
+    <ℤ-intro d.0 (+ℤ-cancel-r y (x +ℤ pos (suc d.0)) u (sym (sides_eq s e) ∙ ap (λ z. x +ℤ z) d.1 ∙ ring (x ∷ u ∷ pos (suc d.0) ∷ []) (search reads depth 20) tt))
 
 -- ---- sums
 pub +ℤ-mono : {a b c d : ℤ} → a ≤ℤ b → c ≤ℤ d → (a +ℤ c) ≤ℤ (b +ℤ d)
@@ -141,14 +141,14 @@ pub +ℤ-mono-≤< : {a b c d : ℤ} → a ≤ℤ b → c <ℤ d → (a +ℤ c) 
 pub nonneg_pos : (n : ℕ) → pos 0 ≤ℤ pos n
 nonneg_pos n = ≤ℤ-intro n (sym (+ℤ_idl (pos n)))
 
-pub pos-suc-pos : (n : ℕ) → pos 0 <ℤ pos (suc n)
-pos-suc-pos n = <ℤ-intro n (sym (+ℤ_idl (pos (suc n))))
+pub pos_suc_pos : (n : ℕ) → pos 0 <ℤ pos (suc n)
+pos_suc_pos n = <ℤ-intro n (sym (+ℤ_idl (pos (suc n))))
 
-pub nonneg-is : {a : ℤ} → pos 0 ≤ℤ a → (n : ℕ) × (a ≡ pos n)
-nonneg-is h = let d = ≤ℤ-dest h in (d.0, d.1 ∙ +ℤ_idl (pos d.0))
+pub nonneg_is : {a : ℤ} → pos 0 ≤ℤ a → (n : ℕ) × (a ≡ pos n)
+nonneg_is h = let d = ≤ℤ-dest h in (d.0, d.1 ∙ +ℤ_idl (pos d.0))
 
-pub positive-is : {a : ℤ} → pos 0 <ℤ a → (n : ℕ) × (a ≡ pos (suc n))
-positive-is h = let d = <ℤ-dest h in (d.0, d.1 ∙ +ℤ_idl (pos (suc d.0)))
+pub positive_is : {a : ℤ} → pos 0 <ℤ a → (n : ℕ) × (a ≡ pos (suc n))
+positive_is h = let d = <ℤ-dest h in (d.0, d.1 ∙ +ℤ_idl (pos (suc d.0)))
 
 pub nonneg-+ : {a b : ℤ} → pos 0 ≤ℤ a → pos 0 ≤ℤ b → pos 0 ≤ℤ (a +ℤ b)
 nonneg-+ h k = +ℤ-mono h k
@@ -161,12 +161,12 @@ positive-+' h k = +ℤ-mono-≤< h k
 
 pub nonneg-* : {a b : ℤ} → pos 0 ≤ℤ a → pos 0 ≤ℤ b → pos 0 ≤ℤ (a *ℤ b)
 nonneg-* h k =
-    let d = nonneg-is h in let e = nonneg-is k in
+    let d = nonneg_is h in let e = nonneg_is k in
     ≤ℤ-intro (d.0 * e.0) (ap₂ ◌*ℤ◌ d.1 e.1 ∙ sym (+ℤ_idl (pos (d.0 * e.0))))
 
 pub positive-* : {a b : ℤ} → pos 0 <ℤ a → pos 0 <ℤ b → pos 0 <ℤ (a *ℤ b)
 positive-* h k =
-    let d = positive-is h in let e = positive-is k in
+    let d = positive_is h in let e = positive_is k in
     <ℤ-intro (d.0 * e.0 + d.0 + e.0) (ap₂ ◌*ℤ◌ d.1 e.1 ∙ ap pos (omega arith) ∙ sym (+ℤ_idl (pos (suc (d.0 * e.0 + d.0 + e.0)))))
 
 -- ---- differences

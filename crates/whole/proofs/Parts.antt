@@ -27,42 +27,42 @@ module _ {A : Type 0} (l : List A) (a e : ℕ) (d : A) (h : a ≤ e) (k : e ≤ 
       back i p = omega arith
 
 -- ---- the whole after a part of it, lent as `&mut s[a..e]`, came back as ys: `put_mid a k xs ys` (`borrow.Rule.Slice.PartMut`), k elements from a on
-getD-right : {A : Type 0} (xs ys : List A) (d : A) (i : ℕ) → length xs ≤ i → get_or (xs ++ ys) i d ≡ get_or ys (i - length xs) d
-getD-right xs ys d i h = let e : length xs + (i - length xs) ≡ i = omega arith in subst (λ (j : ℕ). get_or (xs ++ ys) j d ≡ get_or ys (i - length xs) d) e (get_or-append-add xs ys (i - length xs) d)
+get_or_right : {A : Type 0} (xs ys : List A) (d : A) (i : ℕ) → length xs ≤ i → get_or (xs ++ ys) i d ≡ get_or ys (i - length xs) d
+get_or_right xs ys d i h = let e : length xs + (i - length xs) ≡ i = omega arith in subst (λ (j : ℕ). get_or (xs ++ ys) j d ≡ get_or ys (i - length xs) d) e (get_or-append-add xs ys (i - length xs) d)
 
 module _ {A : Type 0} (xs ys : List A) (a k : ℕ) (d : A) (fit : a + k ≤ length xs) (len : length ys ≡ k) where
   head : length (take a xs) ≡ a
   head = length-take-le a xs (omega arith)
 
-  pub put-before : (i : ℕ) → i < a → get_or (put_mid a k xs ys) i d ≡ get_or xs i d
-  put-before i h = get_or-append (take a xs) (ys ++ post_of a k xs) d i (omega (arith, head)) ∙ get_or-take a xs i d h
+  pub put_before : (i : ℕ) → i < a → get_or (put_mid a k xs ys) i d ≡ get_or xs i d
+  put_before i h = get_or-append (take a xs) (ys ++ post_of a k xs) d i (omega (arith, head)) ∙ get_or-take a xs i d h
 
   pub put_in : (j : ℕ) → j < k → get_or (put_mid a k xs ys) (a + j) d ≡ get_or ys j d
   put_in j h =
       let e : a + j - length (take a xs) ≡ j = omega (arith, head) in
-      getD-right (take a xs) (ys ++ post_of a k xs) d (a + j) (omega (arith, head)) ∙ rw e (get_or-append ys (post_of a k xs) d j (omega arith))
+      get_or_right (take a xs) (ys ++ post_of a k xs) d (a + j) (omega (arith, head)) ∙ rw e (get_or-append ys (post_of a k xs) d j (omega arith))
 
-  pub put-after : (i : ℕ) → a + k ≤ i → get_or (put_mid a k xs ys) i d ≡ get_or xs i d
-  put-after i h =
+  pub put_after : (i : ℕ) → a + k ≤ i → get_or (put_mid a k xs ys) i d ≡ get_or xs i d
+  put_after i h =
       let e : a + (k + (i - length (take a xs) - length ys)) ≡ i = omega (arith, head) in
-      getD-right (take a xs) (ys ++ post_of a k xs) d i (omega (arith, head)) ∙ getD-right ys (post_of a k xs) d (i - length (take a xs)) (omega (arith, head))
+      get_or_right (take a xs) (ys ++ post_of a k xs) d i (omega (arith, head)) ∙ get_or_right ys (post_of a k xs) d (i - length (take a xs)) (omega (arith, head))
       ∙ get_or-drop k (drop a xs) (i - length (take a xs) - length ys) d ∙ get_or-drop a xs (k + (i - length (take a xs) - length ys)) d ∙ ap (λ (j : ℕ). get_or xs j d) e
 
 -- ---- what stands at i after a store at j: by cases
-pub set-case : {A : Type 0} (P : A → Type 0) (l : List A) (j i : ℕ) (v d : A) → j < length l → (i ≡ j → P v) → ((i ≡ j → ⊥) → P (get_or l i d)) → P (get_or (set l j v) i d)
-set-case P l j i v d h here else = go (ℕ_discrete i j)
+pub set_case : {A : Type 0} (P : A → Type 0) (l : List A) (j i : ℕ) (v d : A) → j < length l → (i ≡ j → P v) → ((i ≡ j → ⊥) → P (get_or l i d)) → P (get_or (set l j v) i d)
+set_case P l j i v d h here else = go (ℕ_discrete i j)
   where
     go : Dec (i ≡ j) → P (get_or (set l j v) i d)
     go (yes e) = rw (e, get_or-set_same l j v d h) (here e)
     go (no f) = rw (get_or-set_other l j i v d f) (else f)
 
 -- ---- by cases on an order
-pub by-lt : {P : Type 0} (a b : ℕ) → (a < b → P) → (b ≤ a → P) → P
-by-lt {P} a b yes-case no-case = go (dec_lt a b)
+pub by_lt : {P : Type 0} (a b : ℕ) → (a < b → P) → (b ≤ a → P) → P
+by_lt {P} a b yes-case no-case = go (dec_lt a b)
   where
     go : Dec (a < b) → P
     go (yes p) = yes-case p
-    go (no f) = no-case (not-lt f)
+    go (no f) = no-case (not_lt f)
       where
-        not-lt : (a < b → ⊥) → b ≤ a
-        not-lt f = omega arith
+        not_lt : (a < b → ⊥) → b ≤ a
+        not_lt f = omega arith

@@ -3,7 +3,7 @@ use Rattle.std.specs.Prelude.{ℤ, pos, negsuc, zero, suc}
 use Rattle.whole.specs.declared.Side.{Side}
 use Rattle.whole.specs.declared.Side.TheVariants.{Above, Below, Zero}
 
-abbrev pub side-of : ℤ → Side
-side-of (pos zero) = Zero
-side-of (pos (suc n)) = Above
-side-of (negsuc n) = Below
+abbrev pub side_of : ℤ → Side
+side_of (pos zero) = Zero
+side_of (pos (suc n)) = Above
+side_of (negsuc n) = Below

@@ -1,7 +1,9 @@
 // Small functions on 64-bit signed numbers, each with the whole number that it gives. Sums stand in the code that needs them.
+#![tactic(auto)]
+
 ghost use Rattle.std.specs.Prelude.{◌≡◌, ◌<◌, ◌^◌, pos, nat_abs, neg_ℤ, ◌*ℤ◌};
 ghost use Rattle.whole.specs.Size.{Below};
-ghost use Rattle.whole.specs.Side.{side-of};
+ghost use Rattle.whole.specs.Side.{side_of};
 
 #[derive(Drop)]
 pub enum Side {
@@ -55,7 +57,7 @@ pub fn size(x: i64) -> u64
 
 // Above zero, below zero, or neither.
 pub fn side_of(x: i64) -> Side
-    ensures { result ≡ side-of x }
+    ensures { result ≡ side_of x }
 {
     if x < 0 {
         return Side::Below;

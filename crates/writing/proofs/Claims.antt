@@ -21,12 +21,12 @@ use Rattle.file.specs.Layout.{Layout, layout}
 use Rattle.file.specs.Reading.{head_of, checked, numbers, filled, reads}
 use Rattle.file.specs.declared.reading.Answer.{Answer}
 use Rattle.file.proofs.Tests.{parts, passed}
-use Rattle.file.proofs.Answering.{reads-fine}
-use Rattle.writing.specs.Writing.{polynomials-bytes, file-bytes, all-in-range, writable, written, writes}
-use Rattle.writing.specs.Claims.{Written-back, Read-back, Decided, One-file, In-limits, Unread, Unwritten}
+use Rattle.file.proofs.Answering.{reads_fine}
+use Rattle.writing.specs.Writing.{polynomials_bytes, file_bytes, all_in_range, writable, written, writes}
+use Rattle.writing.specs.Claims.{WrittenBack, ReadBack, Decided, OneFile, InLimits, Unread, Unwritten}
 use Rattle.writing.specs.declared.Written.{Written}
-use Rattle.writing.proofs.ReadBack.{System, checked-written, numbers-back}
-use Rattle.writing.proofs.WriteBack.{file-back, system-back}
+use Rattle.writing.proofs.ReadBack.{System, checked_written, numbers_back}
+use Rattle.writing.proofs.WriteBack.{file_back, system_back}
 
 -- ---- what an answer says
 never : {A : Type 0} → ◌≡◌ {A = ℕ} 0 1 → A
@@ -36,8 +36,8 @@ never z = absurd (omega arith)
 pub record Readable (s : List ℕ) (out : List ℤ) (h : Head) (xs : List ℤ) : Type 0 where
   pub good : checked s ≡ Good
   pub room : places (head_of s) ≤ length out
-  pub head-is : head_of s ≡ h
-  pub numbers-are : numbers s ++ drop (places (head_of s)) out ≡ xs
+  pub head_is : head_of s ≡ h
+  pub numbers_are : numbers s ++ drop (places (head_of s)) out ≡ xs
 
 module _ (s : List ℕ) (out : List ℤ) where
   abbrev outcome : Checked
@@ -54,8 +54,8 @@ module _ (s : List ℕ) (out : List ℤ) where
           record {
             good = a.0;
             room = leb-true (places (head_of s)) (length out) (passed _ TooShort 0 a.1);
-            head-is = cc g;
-            numbers-are = ap (λ (z : Answer × List ℤ). z.1) f;
+            head_is = cc g;
+            numbers_are = ap (λ (z : Answer × List ℤ). z.1) f;
           }
       go (Refused x) q f = let g : Answer.Refused x ≡ Answer.System h = ap (λ (z : Answer × List ℤ). z.0) f in let z : ◌≡◌ {A = ℕ} 0 1 = cc g in never z
 
@@ -63,17 +63,17 @@ module _ (s : List ℕ) (out : List ℤ) where
 pub record Writable (h : Head) (xs : List ℤ) (t : List ℕ) (n : ℕ) (t' : List ℕ) : Type 0 where
   pub enough : places h ≤ length xs
   pub limits : head_ok h ≡ true
-  pub ranged : all-in-range (take (places h) xs) ≡ true
-  pub length-is : length (file-bytes h xs) ≡ n
-  pub bytes-are : file-bytes h xs ++ drop (length (file-bytes h xs)) t ≡ t'
+  pub ranged : all_in_range (take (places h) xs) ≡ true
+  pub length_is : length (file_bytes h xs) ≡ n
+  pub bytes_are : file_bytes h xs ++ drop (length (file_bytes h xs)) t ≡ t'
 
 module _ (h : Head) (xs : List ℤ) (t : List ℕ) where
-  tests : writable h xs (length t) ≡ Good → (head_ok h ≡ true) × (places h ≤ length xs) × (all-in-range (take (places h) xs) ≡ true)
+  tests : writable h xs (length t) ≡ Good → (head_ok h ≡ true) × (places h ≤ length xs) × (all_in_range (take (places h) xs) ≡ true)
   unfolding writable
   tests e =
       let a = parts (test (head_ok h) OutOfLimits 0) _ e in
       let b = parts (test (leb (places h) (length xs)) TooShort 0) _ a.1 in
-      let c = parts (test (all-in-range (take (places h) xs)) BadCoefficient 0) (test (leb (length (file-bytes h xs)) (length t)) TooShort 0) b.1 in
+      let c = parts (test (all_in_range (take (places h) xs)) BadCoefficient 0) (test (leb (length (file_bytes h xs)) (length t)) TooShort 0) b.1 in
       (passed _ OutOfLimits 0 a.0, leb-true (places h) (length xs) (passed _ TooShort 0 b.0), passed _ BadCoefficient 0 c.0)
 
   pub writing : (n : ℕ) (t' : List ℕ) → writes h xs t ≡ (Written.Length n, t') → Writable h xs t n t'
@@ -83,74 +83,74 @@ module _ (h : Head) (xs : List ℤ) (t : List ℕ) where
       go : (c : Checked) → writable h xs (length t) ≡ c → written c h xs t ≡ (Written.Length n, t') → Writable h xs t n t'
       go Good q f =
           let a = tests q in
-          let g : Written.Length (length (file-bytes h xs)) ≡ Written.Length n = ap (λ (z : Written × List ℕ). z.0) f in
-          record { enough = a.1; limits = a.0; ranged = a.2; length-is = cc g; bytes-are = ap (λ (z : Written × List ℕ). z.1) f }
+          let g : Written.Length (length (file_bytes h xs)) ≡ Written.Length n = ap (λ (z : Written × List ℕ). z.0) f in
+          record { enough = a.1; limits = a.0; ranged = a.2; length_is = cc g; bytes_are = ap (λ (z : Written × List ℕ). z.1) f }
       go (Refused x) q f = let g : Written.Refused x ≡ Written.Length n = ap (λ (z : Written × List ℕ). z.0) f in let z : ◌≡◌ {A = ℕ} 0 1 = cc g in never z
 
-  pub writes-fine : System h (take (places h) xs) → places h ≤ length xs → length (file-bytes h xs) ≤ length t
-      → writes h xs t ≡ (Written.Length (length (file-bytes h xs)), file-bytes h xs ++ drop (length (file-bytes h xs)) t)
+  pub writes_fine : System h (take (places h) xs) → places h ≤ length xs → length (file_bytes h xs) ≤ length t
+      → writes h xs t ≡ (Written.Length (length (file_bytes h xs)), file_bytes h xs ++ drop (length (file_bytes h xs)) t)
   unfolding writes writable
-  writes-fine s e l = rw (s.limits, le-leb (places h) (length xs) e, s.ranged, le-leb (length (file-bytes h xs)) (length t) l) refl
+  writes_fine s e l = rw (s.limits, le-leb (places h) (length xs) e, s.ranged, le-leb (length (file_bytes h xs)) (length t) l) refl
 
 -- ---- coefficients beyond the first m × S are not written
-polynomials-front : (L : Layout) (j k : ℕ) (xs ys : List ℤ) → length xs ≡ j * L.size → polynomials-bytes L j k (xs ++ ys) ≡ polynomials-bytes L j k xs
-unfolding polynomials-bytes
-polynomials-front L zero k xs ys e = refl
-polynomials-front L (suc j) k xs ys e =
+polynomials_front : (L : Layout) (j k : ℕ) (xs ys : List ℤ) → length xs ≡ j * L.size → polynomials_bytes L j k (xs ++ ys) ≡ polynomials_bytes L j k xs
+unfolding polynomials_bytes
+polynomials_front L zero k xs ys e = refl
+polynomials_front L (suc j) k xs ys e =
     let big : L.size ≤ length xs = omega (arith, suc-mul j L.size) in
     let left : length (drop L.size xs) ≡ j * L.size = rw (length-drop L.size xs) (omega (arith, suc-mul j L.size)) in
-    rw (take-append-le L.size xs ys big, drop-append-le L.size xs ys big, polynomials-front L j (k + 1) (drop L.size xs) ys left) refl
+    rw (take-append-le L.size xs ys big, drop-append-le L.size xs ys big, polynomials_front L j (k + 1) (drop L.size xs) ys left) refl
 
-file-front : (h : Head) (xs : List ℤ) → places h ≤ length xs → file-bytes h xs ≡ file-bytes h (take (places h) xs)
-unfolding file-bytes places
-file-front h xs e =
-    let f : polynomials-bytes (layout h) h.m 1 xs ≡ polynomials-bytes (layout h) h.m 1 (take (places h) xs) =
-    ap (polynomials-bytes (layout h) h.m 1) (sym (take-append-drop (places h) xs)) ∙ polynomials-front (layout h) h.m 1 (take (places h) xs) (drop (places h) xs) (length-take-le (places h) xs e)
+file_front : (h : Head) (xs : List ℤ) → places h ≤ length xs → file_bytes h xs ≡ file_bytes h (take (places h) xs)
+unfolding file_bytes places
+file_front h xs e =
+    let f : polynomials_bytes (layout h) h.m 1 xs ≡ polynomials_bytes (layout h) h.m 1 (take (places h) xs) =
+    ap (polynomials_bytes (layout h) h.m 1) (sym (take-append-drop (places h) xs)) ∙ polynomials_front (layout h) h.m 1 (take (places h) xs) (drop (places h) xs) (length-take-le (places h) xs e)
     in rw f refl
 
-head-front : (h : Head) (xs : List ℤ) → head_of (file-bytes h xs) ≡ h
-unfolding file-bytes
-head-front h xs = refl
+head_front : (h : Head) (xs : List ℤ) → head_of (file_bytes h xs) ≡ h
+unfolding file_bytes
+head_front h xs = refl
 
 -- ---- a file that reads is that of its system
 module _ (s : List ℕ) (b : Bytes s) (out : List ℤ) (h : Head) (xs : List ℤ) (r : Readable s out h xs) where
   front : take (places h) xs ≡ numbers s
   front =
-      let len : length (numbers s) ≡ places h = (system-back s b r.good).long ∙ ap places r.head-is in
-      rw (← r.numbers-are) (take_at (numbers s) (drop (places (head_of s)) out) (places h) len)
+      let len : length (numbers s) ≡ places h = (system_back s b r.good).long ∙ ap places r.head_is in
+      rw (← r.numbers_are) (take_at (numbers s) (drop (places (head_of s)) out) (places h) len)
 
-  system-is : System h (take (places h) xs)
-  system-is = rw (front, ← r.head-is) (system-back s b r.good)
+  system_is : System h (take (places h) xs)
+  system_is = rw (front, ← r.head_is) (system_back s b r.good)
 
-  file-is : file-bytes h (take (places h) xs) ≡ s
-  file-is = rw (front, ← r.head-is) (file-back s b r.good)
+  file_is : file_bytes h (take (places h) xs) ≡ s
+  file_is = rw (front, ← r.head_is) (file_back s b r.good)
 
-  long-is : places h ≤ length xs
-  long-is = let e = length-append (numbers s) (drop (places (head_of s)) out) in let n = (system-back s b r.good).long in rw (← r.numbers-are, ← r.head-is) (omega arith)
+  long_is : places h ≤ length xs
+  long_is = let e = length-append (numbers s) (drop (places (head_of s)) out) in let n = (system_back s b r.good).long in rw (← r.numbers_are, ← r.head_is) (omega arith)
 
 -- ---- the statements
-pub written_back : Written-back
+pub written_back : WrittenBack
 written_back s b out h xs e t l =
     let r = readable s out h xs e in
-    let f : file-bytes h xs ≡ s = file-front h xs (long-is s b out h xs r) ∙ file-is s b out h xs r in
-    writes-fine h xs t (system-is s b out h xs r) (long-is s b out h xs r) (rw f l) ∙ rw f refl
+    let f : file_bytes h xs ≡ s = file_front h xs (long_is s b out h xs r) ∙ file_is s b out h xs r in
+    writes_fine h xs t (system_is s b out h xs r) (long_is s b out h xs r) (rw f l) ∙ rw f refl
 
-pub read_back : Read-back
+pub read_back : ReadBack
 read_back h xs t n t' e out l =
     let w = writing h xs t n t' e in
     let ys : List ℤ = take (places h) xs in
     let s : System h ys = record { limits = w.limits; long = length-take-le (places h) xs w.enough; ranged = w.ranged } in
-    let f : take n t' ≡ file-bytes h ys = rw (← w.bytes-are) (take_at (file-bytes h xs) (drop (length (file-bytes h xs)) t) n w.length-is) ∙ file-front h xs w.enough in
-    rw f (reads-fine (file-bytes h ys) out (checked-written h ys s) (rw (head-front h ys) l) ∙ rw (head-front h ys, numbers-back h ys s) refl)
+    let f : take n t' ≡ file_bytes h ys = rw (← w.bytes_are) (take_at (file_bytes h xs) (drop (length (file_bytes h xs)) t) n w.length_is) ∙ file_front h xs w.enough in
+    rw f (reads_fine (file_bytes h ys) out (checked_written h ys s) (rw (head_front h ys) l) ∙ rw (head_front h ys, numbers_back h ys s) refl)
 
 pub decided : Decided
 decided s out a b xs ys p q = let e = sym p ∙ q in (ap (λ (z : Answer × List ℤ). z.0) e, ap (λ (z : Answer × List ℤ). z.1) e)
 
-pub one-file : One-file
-one-file s t b c out h xs p q = sym (file-is s b out h xs (readable s out h xs p)) ∙ file-is t c out h xs (readable t out h xs q)
+pub one_file : OneFile
+one_file s t b c out h xs p q = sym (file_is s b out h xs (readable s out h xs p)) ∙ file_is t c out h xs (readable t out h xs q)
 
-pub in-limits : In-limits
-in-limits s b out h xs e = let r = readable s out h xs e in let i = system-is s b out h xs r in (i.limits, long-is s b out h xs r, i.ranged)
+pub in_limits : InLimits
+in_limits s b out h xs e = let r = readable s out h xs e in let i = system_is s b out h xs r in (i.limits, long_is s b out h xs r, i.ranged)
 
 pub unread : Unread
 unfolding reads
@@ -165,5 +165,5 @@ unfolding writes
 unwritten h xs t x t' e = go (writable h xs (length t)) e
   where
     go : (c : Checked) → written c h xs t ≡ (Written.Refused x, t') → t' ≡ t
-    go Good f = let g : Written.Length (length (file-bytes h xs)) ≡ Written.Refused x = ap (λ (z : Written × List ℕ). z.0) f in let z : ◌≡◌ {A = ℕ} 0 1 = cc g in never z
+    go Good f = let g : Written.Length (length (file_bytes h xs)) ≡ Written.Refused x = ap (λ (z : Written × List ℕ). z.0) f in let z : ◌≡◌ {A = ℕ} 0 1 = cc g in never z
     go (Refused y) f = sym (ap (λ (z : Written × List ℕ). z.1) f)

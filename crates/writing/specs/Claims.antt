@@ -7,17 +7,17 @@ use Rattle.system.specs.declared.refusal.Refused.{Refused}
 use Rattle.system.specs.declared.head.Head.{Head}
 use Rattle.file.specs.Reading.{reads}
 use Rattle.file.specs.declared.reading.Answer.{Answer}
-use Rattle.writing.specs.Writing.{all-in-range, writes}
+use Rattle.writing.specs.Writing.{all_in_range, writes}
 use Rattle.writing.specs.declared.Written.{Written}
 
 -- A file that reads is, written again, the same bytes.
-abbrev pub Written-back : Type 0
-Written-back = (s : List ℕ) → Bytes s → (out : List ℤ) (h : Head) (xs : List ℤ) → reads s out ≡ (Answer.System h, xs)
+abbrev pub WrittenBack : Type 0
+WrittenBack = (s : List ℕ) → Bytes s → (out : List ℤ) (h : Head) (xs : List ℤ) → reads s out ≡ (Answer.System h, xs)
     → (t : List ℕ) → length s ≤ length t → writes h xs t ≡ (Written.Length (length s), s ++ drop (length s) t)
 
 -- A system that is written reads back as the same head and numbers.
-abbrev pub Read-back : Type 0
-Read-back = (h : Head) (xs : List ℤ) (t : List ℕ) (n : ℕ) (t' : List ℕ) → writes h xs t ≡ (Written.Length n, t')
+abbrev pub ReadBack : Type 0
+ReadBack = (h : Head) (xs : List ℤ) (t : List ℕ) (n : ℕ) (t' : List ℕ) → writes h xs t ≡ (Written.Length n, t')
     → (out : List ℤ) → places h ≤ length out → reads (take n t') out ≡ (Answer.System h, take (places h) xs ++ drop (places h) out)
 
 -- Reading is decided: of a file and lent places there is one answer, and one content of the places.
@@ -25,13 +25,13 @@ abbrev pub Decided : Type 0
 Decided = (s : List ℕ) (out : List ℤ) (a b : Answer) (xs ys : List ℤ) → reads s out ≡ (a, xs) → reads s out ≡ (b, ys) → (a ≡ b) × (xs ≡ ys)
 
 -- And the other way round: a system has one file.
-abbrev pub One-file : Type 0
-One-file = (s t : List ℕ) → Bytes s → Bytes t → (out : List ℤ) (h : Head) (xs : List ℤ) → reads s out ≡ (Answer.System h, xs) → reads t out ≡ (Answer.System h, xs) → s ≡ t
+abbrev pub OneFile : Type 0
+OneFile = (s t : List ℕ) → Bytes s → Bytes t → (out : List ℤ) (h : Head) (xs : List ℤ) → reads s out ≡ (Answer.System h, xs) → reads t out ≡ (Answer.System h, xs) → s ≡ t
 
 -- What is read keeps the limits, so `write` and a start refuse it neither with 4 nor with 6.
-abbrev pub In-limits : Type 0
-In-limits = (s : List ℕ) → Bytes s → (out : List ℤ) (h : Head) (xs : List ℤ) → reads s out ≡ (Answer.System h, xs)
-    → (head_ok h ≡ true) × (places h ≤ length xs) × (all-in-range (take (places h) xs) ≡ true)
+abbrev pub InLimits : Type 0
+InLimits = (s : List ℕ) → Bytes s → (out : List ℤ) (h : Head) (xs : List ℤ) → reads s out ≡ (Answer.System h, xs)
+    → (head_ok h ≡ true) × (places h ≤ length xs) × (all_in_range (take (places h) xs) ≡ true)
 
 -- A refusal changes nothing.
 abbrev pub Unread : Type 0

@@ -10,57 +10,57 @@ use Rattle.system.specs.declared.head.Checked.{Checked}
 use Rattle.system.specs.declared.head.Checked.TheVariants.{Good, Refused}
 use Rattle.system.specs.Chain.{test, ◌then◌}
 use Rattle.file.specs.Layout.{Layout, layout}
-use Rattle.file.specs.Terms.{in-range, is_zero}
+use Rattle.file.specs.Terms.{in_range, is_zero}
 use Rattle.writing.specs.declared.Written.{Written}
 
 -- "two-byte length of the body, two-byte kind, body"
-abbrev pub record-bytes : ℕ → List ℕ → List ℕ
-record-bytes kind body = bytes16 (length body) ++ (bytes16 kind ++ body)
+abbrev pub record_bytes : ℕ → List ℕ → List ℕ
+record_bytes kind body = bytes16 (length body) ++ (bytes16 kind ++ body)
 
 -- ---- kind 1
-abbrev pub head-body : Head → List ℕ
-head-body h = h.l ∷ h.m ∷ h.n1 ∷ h.n2 ∷ h.n3 ∷ h.g1 ∷ h.g2 ∷ h.g3 ∷ []
+abbrev pub head_body : Head → List ℕ
+head_body h = h.l ∷ h.m ∷ h.n1 ∷ h.n2 ∷ h.n3 ∷ h.g1 ∷ h.g2 ∷ h.g3 ∷ []
 
 -- ---- kind 2: "a zero is not written"
-abbrev pub exponent-bytes : Index → List ℕ
-exponent-bytes j = j.x₁ ∷ j.x₂ ∷ j.x₃ ∷ []
+abbrev pub exponent_bytes : Index → List ℕ
+exponent_bytes j = j.x₁ ∷ j.x₂ ∷ j.x₃ ∷ []
 
-abbrev pub term-bytes : Layout → ℕ → ℤ → List ℕ
-term-bytes L p x = cond (is_zero x) [] (exponent-bytes (L.index p) ++ bytes32 x)
+abbrev pub term_bytes : Layout → ℕ → ℤ → List ℕ
+term_bytes L p x = cond (is_zero x) [] (exponent_bytes (L.index p) ++ bytes32 x)
 
 -- the terms of the coefficients from place p on
-unfoldable pub terms-bytes : Layout → ℕ → List ℤ → List ℕ
-terms-bytes L p [] = []
-terms-bytes L p (x ∷ xs) = term-bytes L p x ++ terms-bytes L (p + 1) xs
+unfoldable pub terms_bytes : Layout → ℕ → List ℤ → List ℕ
+terms_bytes L p [] = []
+terms_bytes L p (x ∷ xs) = term_bytes L p x ++ terms_bytes L (p + 1) xs
 
 -- the polynomial with the number k
-abbrev pub polynomial-bytes : Layout → ℕ → List ℤ → List ℕ
-polynomial-bytes L k xs = record-bytes 2 (k ∷ terms-bytes L 0 xs)
+abbrev pub polynomial_bytes : Layout → ℕ → List ℤ → List ℕ
+polynomial_bytes L k xs = record_bytes 2 (k ∷ terms_bytes L 0 xs)
 
 -- j polynomials, the first of which has the number k
-unfoldable pub polynomials-bytes : Layout → ℕ → ℕ → List ℤ → List ℕ
-polynomials-bytes L zero k xs = []
-polynomials-bytes L (suc j) k xs = polynomial-bytes L k (take L.size xs) ++ polynomials-bytes L j (k + 1) (drop L.size xs)
+unfoldable pub polynomials_bytes : Layout → ℕ → ℕ → List ℤ → List ℕ
+polynomials_bytes L zero k xs = []
+polynomials_bytes L (suc j) k xs = polynomial_bytes L k (take L.size xs) ++ polynomials_bytes L j (k + 1) (drop L.size xs)
 
 -- ---- the whole file
-unfoldable pub file-bytes : Head → List ℤ → List ℕ
-file-bytes h xs = record-bytes 1 (head-body h) ++ (polynomials-bytes (layout h) h.m 1 xs ++ record-bytes 3 [])
+unfoldable pub file_bytes : Head → List ℤ → List ℕ
+file_bytes h xs = record_bytes 1 (head_body h) ++ (polynomials_bytes (layout h) h.m 1 xs ++ record_bytes 3 [])
 
-unfoldable pub all-in-range : List ℤ → Bool
-all-in-range [] = true
-all-in-range (x ∷ xs) = in-range x && all-in-range xs
+unfoldable pub all_in_range : List ℤ → Bool
+all_in_range [] = true
+all_in_range (x ∷ xs) = in_range x && all_in_range xs
 
 -- ---- into lent bytes: "Start and write: 4, 9 for short coefficients, 6, 9 for a short target"
 unfoldable pub writable : Head → List ℤ → ℕ → Checked
 writable h xs room =
     test (head_ok h) Refusal.OutOfLimits 0
     then test (leb (places h) (length xs)) Refusal.TooShort 0
-    then test (all-in-range (take (places h) xs)) Refusal.BadCoefficient 0
-    then test (leb (length (file-bytes h xs)) room) Refusal.TooShort 0
+    then test (all_in_range (take (places h) xs)) Refusal.BadCoefficient 0
+    then test (leb (length (file_bytes h xs)) room) Refusal.TooShort 0
 
 -- a refusal changes nothing, and nothing beyond the file's bytes is changed
 abbrev pub written : Checked → Head → List ℤ → List ℕ → Written × List ℕ
-written Good h xs t = (Written.Length (length (file-bytes h xs)), file-bytes h xs ++ drop (length (file-bytes h xs)) t)
+written Good h xs t = (Written.Length (length (file_bytes h xs)), file_bytes h xs ++ drop (length (file_bytes h xs)) t)
 written (Refused x) h xs t = (Written.Refused x, t)
 
 -- the answer, and the lent bytes afterwards

@@ -2,7 +2,7 @@
 ghost use Rattle.std.specs.Prelude.{◌≡◌, ◌+◌, ◌≤◌, ◌<◌, length, take, drop};
 ghost use Rattle.file.specs.Terms.{is_zero};
 ghost use Rattle.writing.specs.Counts.{unless, count};
-ghost use Rattle.writing.specs.Writing.{all-in-range};
+ghost use Rattle.writing.specs.Writing.{all_in_range};
 
 fn counted(x: i64, n: usize) -> usize
     requires { n < 4294967296 }
@@ -28,7 +28,7 @@ pub fn count_part(xs: &[i64], base: usize, n: usize) -> usize
 // Whether the first n coefficients are within the range.
 pub fn all_within(xs: &[i64], n: usize) -> bool
     requires { n ≤ length xs.now }
-    ensures { result ≡ all-in-range (take n xs.now) }
+    ensures { result ≡ all_in_range (take n xs.now) }
 {
     let mut i = n;
     while 0 < i {

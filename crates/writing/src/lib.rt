@@ -1,4 +1,6 @@
 // Writing a system file. All of it is checked, and its length counted, before the first byte is written.
+#![tactic(auto)]
+
 mod counts;
 mod pieces;
 mod polynomials;

@@ -2,7 +2,7 @@
 ghost use Rattle.std.specs.Prelude.{◌≡◌, [], ◌∷◌, ◌++◌, ◌+◌, ◌≤◌, ◌<◌, length};
 ghost use Rattle.whole.specs.Size.{Below};
 ghost use Rattle.file.specs.Bytes.{bytes16, bytes32, over};
-ghost use Rattle.writing.specs.Writing.{record-bytes, head-body};
+ghost use Rattle.writing.specs.Writing.{record_bytes, head_body};
 
 use system::head::Head;
 
@@ -44,7 +44,7 @@ pub fn put_term(t: &mut [u8], at: usize, i1: u8, i2: u8, i3: u8, x: i64)
 // The first record.
 pub fn put_head(t: &mut [u8], h: Head)
     requires { 12 ≤ length t.old }
-    ensures { t.new ≡ over t.old 0 (record-bytes 1 (head-body h)) }
+    ensures { t.new ≡ over t.old 0 (record_bytes 1 (head_body h)) }
 {
     t[0] = 8;
     t[1] = 0;

@@ -3,8 +3,8 @@ ghost use Rattle.std.specs.Prelude.{◌≡◌, true, ◌+◌, ◌≤◌, ◌<◌
 ghost use Rattle.file.specs.Bytes.{over};
 ghost use Rattle.system.specs.Heads.{places};
 ghost use Rattle.file.specs.Layout.{layout};
-ghost use Rattle.file.specs.Terms.{in-range};
-ghost use Rattle.writing.specs.Writing.{term-bytes, terms-bytes, polynomial-bytes, polynomials-bytes, all-in-range};
+ghost use Rattle.file.specs.Terms.{in_range};
+ghost use Rattle.writing.specs.Writing.{term_bytes, terms_bytes, polynomial_bytes, polynomials_bytes, all_in_range};
 
 use crate::counts::count_part;
 use crate::pieces::{put_byte, put_header, put_term};
@@ -12,10 +12,10 @@ use system::head::Head;
 
 // The term of place p, unless it is zero.
 fn put_place(t: &mut [u8], at: usize, h: Head, p: usize, x: i64) -> usize
-    requires { (at + length (term-bytes (layout h) p x) ≤ length t.old)
-        × ((p < 256) × (in-range x ≡ true)) }
-    ensures { (result ≡ at + length (term-bytes (layout h) p x))
-        × (t.new ≡ over t.old at (term-bytes (layout h) p x)) }
+    requires { (at + length (term_bytes (layout h) p x) ≤ length t.old)
+        × ((p < 256) × (in_range x ≡ true)) }
+    ensures { (result ≡ at + length (term_bytes (layout h) p x))
+        × (t.new ≡ over t.old at (term_bytes (layout h) p x)) }
 {
     if file::terms::is_zero(x) {
         return at;
@@ -36,10 +36,10 @@ fn put_place(t: &mut [u8], at: usize, h: Head, p: usize, x: i64) -> usize
 
 // The terms of the polynomial whose coefficients stand from base on.
 fn put_terms(t: &mut [u8], at: usize, h: Head, xs: &[i64], base: usize) -> usize
-    requires { (at + length (terms-bytes (layout h) 0 (take (layout h).size (drop base xs.now))) ≤ length t.old)
-        × ((base + (layout h).size ≤ length xs.now) × (((layout h).size ≤ 64) × (all-in-range (take (layout h).size (drop base xs.now)) ≡ true))) }
-    ensures { (result ≡ at + length (terms-bytes (layout h) 0 (take (layout h).size (drop base xs.now))))
-        × (t.new ≡ over t.old at (terms-bytes (layout h) 0 (take (layout h).size (drop base xs.now)))) }
+    requires { (at + length (terms_bytes (layout h) 0 (take (layout h).size (drop base xs.now))) ≤ length t.old)
+        × ((base + (layout h).size ≤ length xs.now) × (((layout h).size ≤ 64) × (all_in_range (take (layout h).size (drop base xs.now)) ≡ true))) }
+    ensures { (result ≡ at + length (terms_bytes (layout h) 0 (take (layout h).size (drop base xs.now))))
+        × (t.new ≡ over t.old at (terms_bytes (layout h) 0 (take (layout h).size (drop base xs.now)))) }
 {
     let n = h.size();
     let mut p = 0;
@@ -53,10 +53,10 @@ fn put_terms(t: &mut [u8], at: usize, h: Head, xs: &[i64], base: usize) -> usize
 
 // The record of polynomial k, whose coefficients stand from base on.
 fn put_polynomial(t: &mut [u8], at: usize, h: Head, k: u8, xs: &[i64], base: usize) -> usize
-    requires { (at + length (polynomial-bytes (layout h) k (take (layout h).size (drop base xs.now))) ≤ length t.old)
-        × ((base + (layout h).size ≤ length xs.now) × (((layout h).size ≤ 64) × (all-in-range (take (layout h).size (drop base xs.now)) ≡ true))) }
-    ensures { (result ≡ at + length (polynomial-bytes (layout h) k (take (layout h).size (drop base xs.now))))
-        × (t.new ≡ over t.old at (polynomial-bytes (layout h) k (take (layout h).size (drop base xs.now)))) }
+    requires { (at + length (polynomial_bytes (layout h) k (take (layout h).size (drop base xs.now))) ≤ length t.old)
+        × ((base + (layout h).size ≤ length xs.now) × (((layout h).size ≤ 64) × (all_in_range (take (layout h).size (drop base xs.now)) ≡ true))) }
+    ensures { (result ≡ at + length (polynomial_bytes (layout h) k (take (layout h).size (drop base xs.now))))
+        × (t.new ≡ over t.old at (polynomial_bytes (layout h) k (take (layout h).size (drop base xs.now)))) }
 {
     let c = count_part(xs, base, h.size());
     put_header(t, at, 1 + 7 * c, 2);
@@ -66,10 +66,10 @@ fn put_polynomial(t: &mut [u8], at: usize, h: Head, k: u8, xs: &[i64], base: usi
 
 // The records of the m polynomials, from offset 12 on.
 pub fn put_polynomials(t: &mut [u8], h: Head, xs: &[i64]) -> usize
-    requires { (12 + length (polynomials-bytes (layout h) h.m 1 xs.now) ≤ length t.old)
-        × ((places h ≤ length xs.now) × (((layout h).size ≤ 64) × (all-in-range (take (places h) xs.now) ≡ true))) }
-    ensures { (result ≡ 12 + length (polynomials-bytes (layout h) h.m 1 xs.now))
-        × (t.new ≡ over t.old 12 (polynomials-bytes (layout h) h.m 1 xs.now)) }
+    requires { (12 + length (polynomials_bytes (layout h) h.m 1 xs.now) ≤ length t.old)
+        × ((places h ≤ length xs.now) × (((layout h).size ≤ 64) × (all_in_range (take (places h) xs.now) ≡ true))) }
+    ensures { (result ≡ 12 + length (polynomials_bytes (layout h) h.m 1 xs.now))
+        × (t.new ≡ over t.old 12 (polynomials_bytes (layout h) h.m 1 xs.now)) }
 {
     let n = h.size();
     let m = h.m;

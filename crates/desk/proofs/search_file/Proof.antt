@@ -1,6 +1,6 @@
 -- `search_file` meets its contract: what is found after a file is read, or its refusal. Assumes nothing.
 use borrow.Author.Rules.{rules}
-use Rattle.desk.proofs.Finding.{after_read, not-read}
+use Rattle.desk.proofs.Finding.{after_read, not_read}
 use Rattle.desk.proofs.search_file.Statement.{statement}
 use Rattle.desk.proofs.search_file.Tie as tie
 
@@ -18,7 +18,7 @@ returns-2 c =
     let m = c.before in
     let k = m.before.before.before in
     let s = k.before.before.before.before in
-    not-read 1000000 s.args.file.now s.args.coefficients.now s.args.store.now s.args.list.now k.read.result k.read.ensures.0 _
+    not_read 1000000 s.args.file.now s.args.coefficients.now s.args.store.now s.args.list.now k.read.result k.read.ensures.0 _
     m.system2.given.1
 
 pub search-file-spec : {M : Type 1} → statement M

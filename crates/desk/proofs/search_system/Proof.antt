@@ -1,6 +1,6 @@
 -- `search_system` meets its contract: what is found after a start, or its refusal. Assumes nothing.
 use borrow.Author.Rules.{rules}
-use Rattle.desk.proofs.Finding.{after-start, not-started}
+use Rattle.desk.proofs.Finding.{after_start, not_started}
 use Rattle.desk.proofs.search_system.Statement.{statement}
 use Rattle.desk.proofs.search_system.Tie as tie
 
@@ -10,7 +10,7 @@ returns c =
     let m = q.before.before.before.before in
     let k = m.before.before.before in
     let s = k.before.before.before in
-    after-start 1000000 s.args.h s.args.coefficients.now s.args.store.now s.args.list.now k.start.result k.start.ensures.0 _ _ q.run.result _
+    after_start 1000000 s.args.h s.args.coefficients.now s.args.store.now s.args.list.now k.start.result k.start.ensures.0 _ _ q.run.result _
     k.start.ensures.1 m.started.given.1 q.run.ensures.0 q.run.ensures.1.0
 
 returns-2 : tie.Need-returns-2
@@ -18,7 +18,7 @@ returns-2 c =
     let m = c.before in
     let k = m.before.before.before in
     let s = k.before.before.before in
-    not-started 1000000 s.args.h s.args.coefficients.now s.args.store.now s.args.list.now k.start.result k.start.ensures.0 _
+    not_started 1000000 s.args.h s.args.coefficients.now s.args.store.now s.args.list.now k.start.result k.start.ensures.0 _
     m.started2.given.1
 
 pub search-system-spec : {M : Type 1} → statement M

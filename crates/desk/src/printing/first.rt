@@ -1,7 +1,7 @@
 // The first line of what is printed: a refusal, or the answer word and the counts. Each call puts it at the front of lent text and answers where the next byte goes.
 ghost use Rattle.std.specs.Prelude.{◌≡◌, ◌≤◌, length};
 ghost use Rattle.file.specs.Bytes.{over};
-ghost use Rattle.desk.specs.Lines.{word, refused-line, refusal-line, stop-line};
+ghost use Rattle.desk.specs.Lines.{word, refused_line, refusal_line, stop_line};
 
 use crate::text::{put_number, put_rest, put_word};
 use boxes::visit::Word;
@@ -10,7 +10,7 @@ use system::refusal::Refused;
 // One line, with two numbers of at most 20 digits each.
 fn put_refused(t: &mut [u8], n: u64, offset: usize) -> usize
     requires { 93 ≤ length t.old }
-    ensures { (result ≡ length (refused-line n offset)) × (t.new ≡ over t.old 0 (refused-line n offset)) }
+    ensures { (result ≡ length (refused_line n offset)) × (t.new ≡ over t.old 0 (refused_line n offset)) }
 {
     let o = put_word(t, 0, b"refused ");
     let p = put_number(t, o, n);
@@ -21,7 +21,7 @@ fn put_refused(t: &mut [u8], n: u64, offset: usize) -> usize
 
 pub fn put_refusal(t: &mut [u8], x: Refused) -> usize
     requires { 93 ≤ length t.old }
-    ensures { (result ≡ length (refusal-line x)) × (t.new ≡ over t.old 0 (refusal-line x)) }
+    ensures { (result ≡ length (refusal_line x)) × (t.new ≡ over t.old 0 (refusal_line x)) }
 {
     let why = x.why;
     put_refused(t, why.number() as u64, x.at)
@@ -48,8 +48,8 @@ pub fn put_stop(
     waiting: usize,
 ) -> usize
     requires { 93 ≤ length t.old }
-    ensures { (result ≡ length (stop-line w visits dropped kept waiting))
-        × ((result ≤ 93) × (t.new ≡ over t.old 0 (stop-line w visits dropped kept waiting))) }
+    ensures { (result ≡ length (stop_line w visits dropped kept waiting))
+        × ((result ≤ 93) × (t.new ≡ over t.old 0 (stop_line w visits dropped kept waiting))) }
 {
     let o = put_answer_word(t, w);
     let counts = [visits, dropped, kept as u64, waiting as u64];

@@ -2,7 +2,7 @@
 ghost use Rattle.std.specs.Prelude.{◌≡◌, ◌+◌, ◌*◌, ◌≤◌, length, drop};
 ghost use Rattle.file.specs.Bytes.{over};
 ghost use Rattle.runs.specs.Lists.{seven, first, taken};
-ghost use Rattle.desk.specs.Lines.{kept_line, kept-lines};
+ghost use Rattle.desk.specs.Lines.{kept_line, kept_lines};
 
 use crate::text::{put_number, put_rest};
 
@@ -41,9 +41,9 @@ fn put_record(t: &mut [u8], at: usize, list: &[u16], from: usize) -> usize
 
 // The first n records of the list.
 pub fn put_records(t: &mut [u8], at: usize, list: &[u16], n: usize) -> usize
-    requires { (7 * n ≤ length list.now) × (at + length (kept-lines (taken n list.now)) ≤ length t.old) }
-    ensures { (result ≡ at + length (kept-lines (taken n list.now)))
-        × (t.new ≡ over t.old at (kept-lines (taken n list.now))) }
+    requires { (7 * n ≤ length list.now) × (at + length (kept_lines (taken n list.now)) ≤ length t.old) }
+    ensures { (result ≡ at + length (kept_lines (taken n list.now)))
+        × (t.new ≡ over t.old at (kept_lines (taken n list.now))) }
 {
     let mut i = 0;
     let mut o = at;

@@ -4,15 +4,15 @@ use mathlib.Core.Logic.{⊎_elim}
 use native.Mathlib.Omega.{arith}
 use Prim.Native.Nat.{◌+◌, ◌*◌, ◌-◌, ◌≤◌}
 use Rattle.whole.specs.Half.{lower, upper}
-use Rattle.bernstein.proofs.Lines.{half-cong}
-use Rattle.lines.specs.Lines.{In-blocks, Lines-cut}
-use Rattle.lines.proofs.Rooms.{block-fits, half-ready, half-worked, at_count, narrow, narrowed}
-use Rattle.lines.proofs.Together.{no_block, next-block, more-blocks}
+use Rattle.bernstein.proofs.Lines.{half_cong}
+use Rattle.lines.specs.Lines.{InBlocks, LinesCut}
+use Rattle.lines.proofs.Rooms.{block_fits, half_ready, half_worked, at_count, narrow, narrowed}
+use Rattle.lines.proofs.Together.{no_block, next_block, more_blocks}
 use Rattle.lines.proofs.each_block.Statement.{statement}
 use Rattle.lines.proofs.each_block.Tie as tie
 
 abbrev invariant-loop : tie.invariant-loop
-invariant-loop s₀ up lo outer inner n size o₀ s o = (o ≤ outer) × Lines-cut (In-blocks ((n + 1) * inner) inner o) up lo inner n s₀ s
+invariant-loop s₀ up lo outer inner n size o₀ s o = (o ≤ outer) × LinesCut (InBlocks ((n + 1) * inner) inner o) up lo inner n s₀ s
 
 abbrev decreases-loop : tie.decreases-loop
 decreases-loop s₀ up lo outer inner n size o₀ s o = outer - o
@@ -22,13 +22,13 @@ one-ready c κs =
     let a = c.before.before.before in let s = a.before in (
       record { some = omega arith; most = omega arith },
       narrow (let e : s.args.inner ≡ 1 = omega arith in e)
-          (half-ready s.args.up s.args.lo (a.loop.o * ((s.args.n + 1) * s.args.inner)) (next-block (omega arith) s.requires a.loop.invariant.1)),
+          (half_ready s.args.up s.args.lo (a.loop.o * ((s.args.n + 1) * s.args.inner)) (next_block (omega arith) s.requires a.loop.invariant.1)),
     )
 
 wide-ready : tie.Need-wide-requires invariant-loop decreases-loop
 wide-ready c κs =
     let a = c.before.before.before in let s = a.before in
-    half-ready s.args.up s.args.lo (a.loop.o * ((s.args.n + 1) * s.args.inner)) (next-block (omega arith) s.requires a.loop.invariant.1)
+    half_ready s.args.up s.args.lo (a.loop.o * ((s.args.n + 1) * s.args.inner)) (next_block (omega arith) s.requires a.loop.invariant.1)
 
 loop-again : tie.Need-loop-preserved invariant-loop decreases-loop
 loop-again c =
@@ -36,28 +36,28 @@ loop-again c =
     ⊎_elim
     (λ w. rw w.4 (
       omega arith,
-      more-blocks (omega arith) s.requires a.loop.invariant.1 (λ h b e same j l. half-cong s.args.n b e same h j l)
-          (half-worked s.args.up s.args.lo d (narrowed (let e : s.args.inner ≡ 1 = omega arith in e) w.2.ensures)),
+      more_blocks (omega arith) s.requires a.loop.invariant.1 (λ h b e same j l. half_cong s.args.n b e same h j l)
+          (half_worked s.args.up s.args.lo d (narrowed (let e : s.args.inner ≡ 1 = omega arith in e) w.2.ensures)),
     ))
     (λ w. rw w.4 (
       omega arith,
-      more-blocks (omega arith) s.requires a.loop.invariant.1 (λ h b e same j l. half-cong s.args.n b e same h j l)
-          (half-worked s.args.up s.args.lo d w.2.ensures),
+      more_blocks (omega arith) s.requires a.loop.invariant.1 (λ h b e same j l. half_cong s.args.n b e same h j l)
+          (half_worked s.args.up s.args.lo d w.2.ensures),
     ))
     c.if1.branch
 
 returns : tie.Need-returns invariant-loop decreases-loop
 returns c =
     let a = c.before in let s = a.before in
-    at_count (In-blocks ((s.args.n + 1) * s.args.inner) s.args.inner) (let e : a.loop.o ≡ s.args.outer = omega arith in e) a.loop.invariant.1
+    at_count (InBlocks ((s.args.n + 1) * s.args.inner) s.args.inner) (let e : a.loop.o ≡ s.args.outer = omega arith in e) a.loop.invariant.1
 
 pub each-block-spec : {M : Type 1} → statement M
 each-block-spec =
     tie.close
-    (tie.spec invariant-loop decreases-loop (λ c. omega (arith, c.requires.degree)) (λ c. omega (arith, block-fits c.requires c.requires.some upper)) (λ c. (omega arith, no_block))
-    (λ c. let a = c.before in omega (arith, block-fits a.before.requires a.loop.invariant.0 upper))
-    (λ c. let a = c.before.before.before in omega (arith, block-fits a.before.requires a.loop.invariant.0 upper))
-    (λ c. let a = c.before.before.before in omega (arith, block-fits a.before.requires a.loop.invariant.0 lower)) one-ready
-    (λ c. let a = c.before.before.before in omega (arith, block-fits a.before.requires a.loop.invariant.0 upper))
-    (λ c. let a = c.before.before.before in omega (arith, block-fits a.before.requires a.loop.invariant.0 lower)) wide-ready
+    (tie.spec invariant-loop decreases-loop (λ c. omega (arith, c.requires.degree)) (λ c. omega (arith, block_fits c.requires c.requires.some upper)) (λ c. (omega arith, no_block))
+    (λ c. let a = c.before in omega (arith, block_fits a.before.requires a.loop.invariant.0 upper))
+    (λ c. let a = c.before.before.before in omega (arith, block_fits a.before.requires a.loop.invariant.0 upper))
+    (λ c. let a = c.before.before.before in omega (arith, block_fits a.before.requires a.loop.invariant.0 lower)) one-ready
+    (λ c. let a = c.before.before.before in omega (arith, block_fits a.before.requires a.loop.invariant.0 upper))
+    (λ c. let a = c.before.before.before in omega (arith, block_fits a.before.requires a.loop.invariant.0 lower)) wide-ready
     (λ c. omega arith) (λ c. omega arith) loop-again (λ c. c.before.loop.invariant.1.size) returns)

@@ -4,7 +4,7 @@ use native.Mathlib.Omega.{arith}
 use borrow.Author.Rules.{rules}
 use lib.ListN.{length-set}
 use Rattle.whole.proofs.Machine.{back}
-use Rattle.lines.proofs.Rows.{first_small, scale_one, scale-two}
+use Rattle.lines.proofs.Rows.{first_small, scale_one, scale_two}
 use Rattle.lines.proofs.scale_row.Statement.{statement}
 use Rattle.lines.proofs.scale_row.Tie as tie
 
@@ -20,7 +20,7 @@ alone c κs = let s = c.before.before in (s.requires.0, rw (back c.scaled-arg3.g
 two : tie.Need-returns
 two c =
     let s = c.before.before.before.before.before in
-    scale-two s.args.s.now s.args.a s.args.b s.args.e s.args.w s.requires.1 (let e : s.args.w ≡ 2 = omega arith in e)
+    scale_two s.args.s.now s.args.a s.args.b s.args.e s.args.w s.requires.1 (let e : s.args.w ≡ 2 = omega arith in e)
     (back c.before.before.scaled.type-inv ∙ c.before.before.scaled.ensures ∙ rw (back c.before.before.before.scaled-arg.given) refl)
     (back c.scaled2.type-inv ∙ c.scaled2.ensures ∙ rw (back c.before.scaled-arg2.given) refl)
 

@@ -2,9 +2,9 @@
 use native.Mathlib.Omega.{arith}
 use Prim.Native.Nat.{◌≤◌, ◌<◌}
 use Rattle.lines.specs.Inside.{stepped}
-use Rattle.lines.proofs.Rows.{row-le}
+use Rattle.lines.proofs.Rows.{row_le}
 use Rattle.lines.proofs.Turns.{Turning, start, end}
-use Rattle.lines.proofs.Passes.{step_room, step-rows, step-turn, step_end}
+use Rattle.lines.proofs.Passes.{step_room, step_rows, step_turn, step_end}
 use Rattle.lines.proofs.step.Statement.{statement}
 use Rattle.lines.proofs.step.Tie as tie
 
@@ -15,19 +15,19 @@ abbrev decreases-loop : tie.decreases-loop
 decreases-loop s₀ first inner k n j₀ s j = j
 
 mul-p : tie.Need-overflow-mul-p invariant-loop decreases-loop
-mul-p c = let a = c.before in omega (arith, row-le a.before.args.inner a.loop.invariant.1, a.before.requires.1.fits)
+mul-p c = let a = c.before in omega (arith, row_le a.before.args.inner a.loop.invariant.1, a.before.requires.1.fits)
 
 add-p : tie.Need-overflow-add-p invariant-loop decreases-loop
-add-p c = let a = c.before in omega (arith, row-le a.before.args.inner a.loop.invariant.1, a.before.requires.1.fits)
+add-p c = let a = c.before in omega (arith, row_le a.before.args.inner a.loop.invariant.1, a.before.requires.1.fits)
 
 add-row-requires : tie.Need-add-row-requires invariant-loop decreases-loop
 add-row-requires c κs =
-    let a = c.before.before in step-rows a.before.requires.1 (omega arith) a.loop.invariant.1 a.loop.invariant.2 a.before.requires.2
+    let a = c.before.before in step_rows a.before.requires.1 (omega arith) a.loop.invariant.1 a.loop.invariant.2 a.before.requires.2
 
 loop-again : tie.Need-loop-preserved invariant-loop decreases-loop
 loop-again c =
     let a = c.before.before.before.before in
-    (omega arith, omega arith, step-turn a.before.requires.1 (omega arith) a.loop.invariant.1 a.loop.invariant.2 c.before.add_row.ensures)
+    (omega arith, omega arith, step_turn a.before.requires.1 (omega arith) a.loop.invariant.1 a.loop.invariant.2 c.before.add_row.ensures)
 
 pub step_spec : {M : Type 1} → statement M
 step_spec =

@@ -1,6 +1,6 @@
 // A record's seven numbers as middles and half widths, or refused with 10.
 ghost use Rattle.std.specs.Prelude.{◌≡◌};
-ghost use Rattle.system.specs.Refusals.{at-start};
+ghost use Rattle.system.specs.Refusals.{at_start};
 ghost use Rattle.boxes.specs.Middles.{placed};
 ghost use Rattle.runs.specs.Tables.{box_of};
 ghost use Rattle.runs.specs.Lists.{first};
@@ -10,7 +10,7 @@ use boxes::middle::Placed;
 use system::refusal::Refusal;
 
 fn outside() -> Placed
-    ensures { result ≡ Placed.Refused (at-start Refusal.OutsideRules) }
+    ensures { result ≡ Placed.Refused (at_start Refusal.OutsideRules) }
 {
     Placed::Refused(Refusal::OutsideRules.at_start())
 }

@@ -1,6 +1,6 @@
 // One visit with the list as numbers.
 ghost use Rattle.std.specs.Prelude.{◌≡◌};
-ghost use Rattle.runs.specs.Visits.{visit-of};
+ghost use Rattle.runs.specs.Visits.{visit_of};
 ghost use Rattle.runs.specs.Lists.{listed, relisted};
 
 use crate::plain::list::{put, room};
@@ -11,9 +11,9 @@ use waiting::state::{State, check};
 use waiting::step::step_seen;
 
 pub fn visit(store: &mut [i64], list: &mut [u16], h: Head, s: State) -> Answer
-    ensures { (result ≡ (visit-of h s (listed list.old) store.old).answer)
-        × ((list.new ≡ relisted list.old (visit-of h s (listed list.old) store.old).end.list)
-        × (store.new ≡ (visit-of h s (listed list.old) store.old).end.store)) }
+    ensures { (result ≡ (visit_of h s (listed list.old) store.old).answer)
+        × ((list.new ≡ relisted list.old (visit_of h s (listed list.old) store.old).end.list)
+        × (store.new ≡ (visit_of h s (listed list.old) store.old).end.store)) }
 {
     let n = room(list);
     let v = check(h, s, store, n);

@@ -6,13 +6,13 @@ use lib.ListN.{length}
 use lib.Seq.{length-take-le}
 use Rattle.runs.specs.Lists.{listed}
 use Rattle.desk.specs.Lines.{told}
-use Rattle.solve.proofs.Front.{front-there}
+use Rattle.solve.proofs.Front.{front_there}
 use Rattle.solve.proofs.print.Statement.{statement}
 use Rattle.solve.proofs.print.Tie as tie
 
 there : (c : tie.After-tell) → c.tell.result ≤ length c.tell.new.1.1.0
 there c =
-    front-there c.tell.new.1.1.0 (told c.before.before.args.a (listed c.before.before.args.list.now)) _ c.tell.result c.tell.ensures.0
+    front_there c.tell.new.1.1.0 (told c.before.before.args.a (listed c.before.before.args.list.now)) _ c.tell.result c.tell.ensures.0
     c.tell.ensures.1
 
 pub print-spec : {M : Type 1} → statement M

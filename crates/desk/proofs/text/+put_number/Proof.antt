@@ -7,7 +7,7 @@ use borrow.Author.Rules.{rules}
 use borrow.Fn.Kinds.{In}
 use borrow.Fn.PlainCycle.{Measures, is, falls, and}
 use lib.ListN.{length}
-use Rattle.desk.proofs.Decimals.{decimal-length, one-put, last_fits, last-put}
+use Rattle.desk.proofs.Decimals.{decimal_length, one_put, last_fits, last_put}
 use Rattle.desk.specs.Text.{decimal}
 use Rattle.desk.proofs.text.put_number.Reads as put-number
 use Rattle.desk.proofs.text.put_number.Kinds as put-number-kinds
@@ -27,15 +27,15 @@ below t = and 1 put-number-kinds.ps (falls 1 put-number-kinds.ps ◌<◌ μ-put-
 
 slice-write-t : (t : ℕ) → put-number-lts.Need-slice-write-t (below t, put-number.Post) (at-it t) put-number.Post
 slice-write-t t c = let s = c.before.before in
-    omega (arith, (one-put s.args.t.now s.args.at s.args.n s.requires.1 c.if1.true).0)
+    omega (arith, (one_put s.args.t.now s.args.at s.args.n s.requires.1 c.if1.true).0)
 
 returns : (t : ℕ) → put-number-lts.Need-returns (below t, put-number.Post) (at-it t) put-number.Post
-returns t c = let s = c.before.before in one-put s.args.t.now s.args.at s.args.n s.requires.1 c.if1.true
+returns t c = let s = c.before.before in one_put s.args.t.now s.args.at s.args.n s.requires.1 c.if1.true
 
 put-number-requires : (t : ℕ) → put-number-lts.Need-put-number-requires (below t, put-number.Post) (at-it t) put-number.Post
 put-number-requires t c κs = let s = c.before.before.before in
     let h : 10 ≤ s.args.n = c.before.if1.false in
-    (omega (arith, s.requires.0), omega (arith, s.requires.1, decimal-length s.args.n h))
+    (omega (arith, s.requires.0), omega (arith, s.requires.1, decimal_length s.args.n h))
 
 slice-write-t-2 : (t : ℕ) → put-number-lts.Need-slice-write-t-2 (below t, put-number.Post) (at-it t) put-number.Post
 slice-write-t-2 t c = let s = c.before.before.before.before.before.before in
@@ -46,7 +46,7 @@ slice-write-t-2 t c = let s = c.before.before.before.before.before.before in
 returns-2 : (t : ℕ) → put-number-lts.Need-returns-2 (below t, put-number.Post) (at-it t) put-number.Post
 returns-2 t c = let s = c.before.before.before.before.before.before in
     let p = c.before.before.put-number in
-    last-put s.args.t.now s.args.at s.args.n s.requires.1 c.before.before.before.before.if1.false p.result p.new.0 p.ensures.0
+    last_put s.args.t.now s.args.at s.args.n s.requires.1 c.before.before.before.before.if1.false p.result p.new.0 p.ensures.0
     p.ensures.1
 
 add-result-2 : (t : ℕ) → put-number-lts.Need-overflow-add-result-2 (below t, put-number.Post) (at-it t) put-number.Post

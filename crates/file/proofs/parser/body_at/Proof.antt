@@ -4,7 +4,7 @@ use Prim.Native.Nat.{◌+◌, ◌-◌, ◌≤◌}
 use native.Mathlib.Omega.{arith}
 use borrow.Author.Rules.{rules}
 use lib.ListN.{length}
-use Rattle.file.proofs.Stepping.{body-inside, body-there, body-none}
+use Rattle.file.proofs.Stepping.{body_inside, body_there, body_none}
 use Rattle.file.proofs.parser.body_at.Statement.{statement}
 use Rattle.file.proofs.parser.body_at.Tie as tie
 
@@ -17,7 +17,7 @@ enum-known-step c = search rules
 inside : (c : tie.After-known-told) → c.before.step.given.0.1.0 + c.before.step.given.0.1.1.0 ≤ length c.before.before.before.before.before.args.file.now
 inside c =
     let a = c.before.before.before.before.before.args in
-    body-inside a.file.now a.at _ c.before.before.before.record-at.ensures _ _ _ c.before.step.given.1
+    body_inside a.file.now a.at _ c.before.before.before.record-at.ensures _ _ _ c.before.step.given.1
 
 add-end : tie.Need-overflow-add-end
 add-end c = omega (arith, inside c)
@@ -47,11 +47,11 @@ returns : tie.Need-returns
 returns c = let a = c.before.before.before.before.before.before.args in
     let g = c.before.before.step.given in
     let e : g.0.1.0 + g.0.1.1.0 - g.0.1.0 ≡ g.0.1.1.0 = omega arith in
-    rw e (body-there a.file.now a.at _ c.before.before.before.before.record-at.ensures _ _ _ g.1)
+    rw e (body_there a.file.now a.at _ c.before.before.before.before.record-at.ensures _ _ _ g.1)
 
 returns-2 : tie.Need-returns-2
 returns-2 c = let a = c.before.before.before.before.before.args in
-    body-none a.file.now a.at _ c.before.before.before.record-at.ensures _ c.before.enum_told.given.1
+    body_none a.file.now a.at _ c.before.before.before.record-at.ensures _ c.before.enum_told.given.1
 
 pub body-at-spec : {M : Type 1} → statement M
 body-at-spec =

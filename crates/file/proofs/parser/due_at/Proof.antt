@@ -3,18 +3,18 @@ use mathlib.Core.Path.{refl, sym, ◌∙◌}
 use native.Mathlib.Omega.{arith}
 use borrow.Author.Rules.{rules}
 use borrow.Author.Tests.{not-true, not-false}
-use Rattle.file.proofs.Stepping.{due-kind, due-length, due-cut, due-fine, due-short}
+use Rattle.file.proofs.Stepping.{due_kind, due_length, due_cut, due_fine, due_short}
 use Rattle.file.proofs.parser.due_at.Statement.{statement}
 use Rattle.file.proofs.parser.due_at.Tie as tie
 
 returns : tie.Need-returns
-returns c = due-short _ _ _ _ (omega arith)
+returns c = due_short _ _ _ _ (omega arith)
 
 sub-left : tie.Need-overflow-sub-left
 sub-left c = search rules
 
 returns-2 : tie.Need-returns-2
-returns-2 c = due-short _ _ _ _ (omega arith)
+returns-2 c = due_short _ _ _ _ (omega arith)
 
 add-two : tie.Need-overflow-add-two
 add-two c = search rules
@@ -23,7 +23,7 @@ two-requires : tie.Need-two-requires
 two-requires c κs = search rules
 
 returns-3 : tie.Need-returns-3
-returns-3 c = due-kind _ _ _ _ refl c.before.two.ensures.0 (omega arith) _ _ c.if3.true
+returns-3 c = due_kind _ _ _ _ refl c.before.two.ensures.0 (omega arith) _ _ c.if3.true
 
 two-requires-2 : tie.Need-two-requires-2
 two-requires-2 c κs = search rules
@@ -32,13 +32,13 @@ allowed-requires : tie.Need-allowed-requires
 allowed-requires c κs = search rules
 
 returns-4 : tie.Need-returns-4
-returns-4 c = due-length _ _ _ _ c.before.before.two2.ensures.0 c.before.before.before.before.two.ensures.0 (omega arith) _ _ c.before.before.before.if3.false (sym c.before.allowed.ensures ∙ not-true _ c.if4.true)
+returns-4 c = due_length _ _ _ _ c.before.before.two2.ensures.0 c.before.before.before.before.two.ensures.0 (omega arith) _ _ c.before.before.before.if3.false (sym c.before.allowed.ensures ∙ not-true _ c.if4.true)
 
 returns-5 : tie.Need-returns-5
-returns-5 c = due-cut _ _ _ _ c.before.before.before.two2.ensures.0 c.before.before.before.before.before.two.ensures.0 (omega arith) _ _ c.before.before.before.before.if3.false (sym c.before.before.allowed.ensures ∙ not-false _ c.before.if4.false) (omega arith)
+returns-5 c = due_cut _ _ _ _ c.before.before.before.two2.ensures.0 c.before.before.before.before.before.two.ensures.0 (omega arith) _ _ c.before.before.before.before.if3.false (sym c.before.before.allowed.ensures ∙ not-false _ c.before.if4.false) (omega arith)
 
 returns-6 : tie.Need-returns-6
-returns-6 c = due-fine _ _ _ _ c.before.before.before.two2.ensures.0 c.before.before.before.before.before.two.ensures.0 (omega arith) _ _ c.before.before.before.before.if3.false (sym c.before.before.allowed.ensures ∙ not-false _ c.before.if4.false) (omega arith)
+returns-6 c = due_fine _ _ _ _ c.before.before.before.two2.ensures.0 c.before.before.before.before.before.two.ensures.0 (omega arith) _ _ c.before.before.before.before.if3.false (sym c.before.before.allowed.ensures ∙ not-false _ c.before.if4.false) (omega arith)
 
 pub due-at-spec : {M : Type 1} → statement M
 due-at-spec =

@@ -2,18 +2,18 @@
 use mathlib.Core.Path.{refl}
 use native.Mathlib.Omega.{arith}
 use borrow.Author.Rules.{rules}
-use Rattle.file.proofs.Stepping.{step-short, step_cut, step-fine}
+use Rattle.file.proofs.Stepping.{step_short, step_cut, step_fine}
 use Rattle.file.proofs.parser.record_at.Statement.{statement}
 use Rattle.file.proofs.parser.record_at.Tie as tie
 
 returns : tie.Need-returns
-returns c = step-short _ _ (omega arith)
+returns c = step_short _ _ (omega arith)
 
 sub-left : tie.Need-overflow-sub-left
 sub-left c = search rules
 
 returns-2 : tie.Need-returns-2
-returns-2 c = step-short _ _ (omega arith)
+returns-2 c = step_short _ _ (omega arith)
 
 two-requires : tie.Need-two-requires
 two-requires c κs = search rules
@@ -31,7 +31,7 @@ add-t14 : tie.Need-overflow-add-t14
 add-t14 c = search rules
 
 returns-4 : tie.Need-returns-4
-returns-4 c = step-fine _ _ _ _ c.before.before.two.ensures.0 c.two2.ensures.0 (omega arith) (omega arith)
+returns-4 c = step_fine _ _ _ _ c.before.before.two.ensures.0 c.two2.ensures.0 (omega arith) (omega arith)
 
 pub record-at-spec : {M : Type 1} → statement M
 record-at-spec =

@@ -5,7 +5,7 @@ use Prim.Native.Nat.{◌+◌, ◌≤◌}
 use native.Mathlib.Omega.{arith}
 use borrow.Author.Rules.{rules}
 use lib.ListN.{length}
-use Rattle.file.proofs.Stepping.{body-inside}
+use Rattle.file.proofs.Stepping.{body_inside}
 use Rattle.file.specs.Reads.{after}
 use Rattle.file.proofs.reader.behind.Statement.{statement}
 use Rattle.file.proofs.reader.behind.Tie as tie
@@ -19,7 +19,7 @@ enum-known-s c = search rules
 add-result : tie.Need-overflow-add-result
 add-result c =
     let a = c.before.before.before.before.before.args in
-    let inside : c.before.s.given.0.1.0 + c.before.s.given.0.1.1.0 ≤ length a.file.now = body-inside a.file.now a.at _ c.before.before.before.record-at.ensures _ _ _ c.before.s.given.1 in
+    let inside : c.before.s.given.0.1.0 + c.before.s.given.0.1.1.0 ≤ length a.file.now = body_inside a.file.now a.at _ c.before.before.before.record-at.ensures _ _ _ c.before.s.given.1 in
     omega (arith, inside)
 
 enum_told : tie.Need-enum-told

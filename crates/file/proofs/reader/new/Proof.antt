@@ -14,7 +14,7 @@ use Rattle.walks.proofs.Closing.{closes}
 use Rattle.walks.proofs.Data.{shown, stays, all_go, spelled, told}
 use Rattle.walks.proofs.Edges.{enters, ends}
 use Rattle.walks.proofs.Locals.{none, full, begins, passes, local, sets, leaves}
-use Rattle.file.proofs.Readers.{File, Own, together, file-val}
+use Rattle.file.proofs.Readers.{File, Own, together, file_val}
 use Rattle.file.specs.contracts.reader.new.Key.{name}
 use Rattle.file.specs.contracts.reader.new as F
 use Rattle.file.proofs.reader.new.Statement.{statement}
@@ -28,7 +28,7 @@ new_spec 𝓤 𝓛 𝓜 𝓡 =
     (λ 𝓣 known κs qs bounds a g are Q finish.
     let file = File κs.0 a.0 in
     let wt = ((shr_slice_Lawful 𝓛 (named 0) κs.0 u8).typed a.0 (shr_slice_vals a.0) are.0).0 in
-    enters 𝓛 κs.0 qs.0 file [] tt ∵ use1 𝓛 (‵ file ⊛ ‵ file) ((shr_slice_copy 𝓛 (named 0) κs.0 u8).twice a.0 (file-val a.0 ∷ [])) $ split ! $
+    enters 𝓛 κs.0 qs.0 file [] tt ∵ use1 𝓛 (‵ file ⊛ ‵ file) ((shr_slice_copy 𝓛 (named 0) κs.0 u8).twice a.0 (file_val a.0 ∷ [])) $ split ! $
     begins ! _ _ code.function _ Q (λ l₀ l₁. params1 ! $ passes ! 2 refl wt $ pass0 ! $
     sets ! 0 (agg ! (and_then ! (local ! 0 refl) (and_then ! (lit ! tt) (no_more !)))) refl (tt, (wt.1, (record { fits = lit< tt }, tt))) $ leaves ! (full (full none)) $
     -- [the file; the file; the token]

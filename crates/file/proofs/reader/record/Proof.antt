@@ -22,10 +22,10 @@ use Rattle.file.specs.contracts.parser.Step as S
 use Rattle.file.proofs.parser.Step.TheLaws as S'
 use Rattle.walks.proofs.Closing.{closes}
 use Rattle.walks.proofs.Data.{number, stays, all_go, spelled, told}
-use Rattle.walks.proofs.Lent.{hands, calls-owning}
+use Rattle.walks.proofs.Lent.{hands, calls_owning}
 use Rattle.walks.proofs.Edges.{enters, ends}
 use Rattle.walks.proofs.Locals.{upto, none, full, begins, passes, local, field, sets, receives, leaves}
-use Rattle.file.proofs.Readers.{reader, file-val, Own, File, reader-typed, apart}
+use Rattle.file.proofs.Readers.{reader, file_val, Own, File, reader_typed, apart}
 use Rattle.file.specs.contracts.reader.record.Key.{name}
 use Rattle.file.specs.contracts.reader.record as F
 use Rattle.file.proofs.reader.record.Statement.{statement}
@@ -41,12 +41,12 @@ record-spec 𝓤 𝓛 𝓜 𝓡 =
     (λ 𝓣 known κs qs bounds a g are Q finish.
     let d = a.0 in
     let file = File κs.0 d.file in
-    let wt = reader-typed 𝓛 κs.0 d are.0 in
+    let wt = reader_typed 𝓛 κs.0 d are.0 in
     enters 𝓛 κs.0 qs.0 (Own κs.0 d) [] tt ∵ use1 𝓛 (‵ (Own κs.0 d) ⊛ ‵ file) (apart 𝓛 κs.0 d) $ split ! $
     begins ! _ _ code.function _ Q (λ l₀ l₁ l₂ l₃. params1 ! $ passes ! 2 refl wt $ pass0 ! $
     sets ! 0 (of_opd ! (field ! 0 refl refl tt)) refl (tt, wt.1.0) $ sets ! 0 (of_opd ! (field ! 0 refl refl tt)) refl (tt, wt.1.1.0) $
     -- [the token; the file; the locals; the reader]
-    move ! (10 ∷ 9 ∷ []) $ calls-owning ! (fm_of 𝓤 𝓛.H 𝓛.laws 𝓣) contract known ((κs, qs, tt, (d.file, (d.at, tt)), (file-val d.file ∷ [], (vint w64 d.at ∷ [], tt))), tt) file S.the_row 2 (λ r. r ≡ step d.at (drop d.at d.file.now))
+    move ! (10 ∷ 9 ∷ []) $ calls_owning ! (fm_of 𝓤 𝓛.H 𝓛.laws 𝓣) contract known ((κs, qs, tt, (d.file, (d.at, tt)), (file_val d.file ∷ [], (vint w64 d.at ∷ [], tt))), tt) file S.the_row 2 (λ r. r ≡ step d.at (drop d.at d.file.now))
     (hands 𝓛 κs.0 qs.0 file [] tt (number w64 ∷ []) (d.at, tt) tt ((refl, wt.1.1.0.fits), tt) (id⊢ 𝓤 _)) (λ w. id⊢ 𝓤 _) (and_then ! (local ! 1 refl) (and_then ! (local ! 1 refl) (no_more !))) (λ w r e is.
     receives ! 2 refl ((EL.lawful S.the_type S'.the_laws 𝓛 tt).typed r _ is).0 $ move ! (upto 2 8) $ leaves ! (full (full (full (full none)))) $
     suffices ! _ (finish _ r (tt, tt) (tt, tt)) $ says ! e $ by ! (ends 𝓛 κs.0 qs.0 (Own κs.0 d) [] tt tt ((S.the_row).own_val r (w ∷ []))))))

@@ -1,6 +1,6 @@
 -- `reading::check` meets its contract: each return is a case of `checked`. Assumes nothing.
 use borrow.Author.Rules.{rules}
-use Rattle.file.proofs.Walking.{whole-stop, whole_room, whole-limits, whole-polynomials}
+use Rattle.file.proofs.Walking.{whole_stop, whole_room, whole_limits, whole_polynomials}
 use Rattle.file.proofs.reading.check.Statement.{statement}
 use Rattle.file.proofs.reading.check.Tie as tie
 
@@ -14,7 +14,7 @@ enum-known-c : tie.Need-enum-known-c
 enum-known-c c = search rules
 
 returns : tie.Need-returns
-returns c = whole-stop _ _ c.before.before.before.due-at.ensures _ c.before.c.given.1
+returns c = whole_stop _ _ c.before.before.before.due-at.ensures _ c.before.c.given.1
 
 head-at-requires : tie.Need-head-at-requires
 head-at-requires c κs = whole_room _ _ c.before.before.due-at.ensures c.enum_told.given.1
@@ -30,7 +30,7 @@ enum-known-limits c = search rules
 
 returns-2 : tie.Need-returns-2
 returns-2 c = let e = c.before.before.before.before.before in
-    whole-limits _ _ e.before.before.due-at.ensures e.enum_told.given.1 _ c.before.before.before.before.head_at.ensures _ c.before.before.before.check.ensures _ c.before.limits.given.1
+    whole_limits _ _ e.before.before.due-at.ensures e.enum_told.given.1 _ c.before.before.before.before.head_at.ensures _ c.before.before.before.check.ensures _ c.before.limits.given.1
 
 polynomials-at-requires : tie.Need-polynomials-at-requires
 polynomials-at-requires c κs = search rules
@@ -38,7 +38,7 @@ polynomials-at-requires c κs = search rules
 returns-3 : tie.Need-returns-3
 returns-3 c = let d = c.before.before.before in
     let e = d.before.before in
-    whole-polynomials _ _ e.before.before.due-at.ensures e.enum_told.given.1 _ d.before.head_at.ensures _ d.check.ensures c.before.enum-told2.given.1 _ c.polynomials-at.ensures
+    whole_polynomials _ _ e.before.before.due-at.ensures e.enum_told.given.1 _ d.before.head_at.ensures _ d.check.ensures c.before.enum-told2.given.1 _ c.polynomials-at.ensures
 
 pub check-spec : {M : Type 1} → statement M
 check-spec =

@@ -4,7 +4,7 @@ use native.Mathlib.Omega.{arith}
 use borrow.Author.Rules.{rules}
 use lib.ListN.{length, drop}
 use Rattle.system.specs.Heads.{places}
-use Rattle.file.proofs.Filling.{Filled, filled-long, filled-fits, filled-turn, filled-over, filled-start}
+use Rattle.file.proofs.Filling.{Filled, filled_long, filled_fits, filled_turn, filled_over, filled_start}
 use Rattle.file.specs.Layout.{layout}
 use Rattle.file.specs.Reading.{numbers_of}
 use Rattle.file.specs.Bytes.{word16}
@@ -26,11 +26,11 @@ module _ (c : tie.In-loop invariant-loop decreases-loop) where
 
   long : (c.before.loop.o + 4 + word16 start.args.file.now c.before.loop.o ≤ length start.args.file.now) × (1 ≤ word16 start.args.file.now c.before.loop.o)
   unfolding places
-  long = let l = c.before.loop in filled-long (layout start.args.h) start.args.file.now _ start.args.out.now start.args.h.m start.pre.1 l.k l.o l.base l.out l.invariant below
+  long = let l = c.before.loop in filled_long (layout start.args.h) start.args.file.now _ start.args.out.now start.args.h.m start.pre.1 l.k l.o l.base l.out l.invariant below
 
   room : c.before.loop.base + (layout start.args.h).size ≤ length c.before.loop.out
   unfolding places
-  room = let l = c.before.loop in filled-fits (layout start.args.h) start.args.file.now _ start.args.out.now start.args.h.m start.pre.1 l.k l.o l.base l.out l.invariant below
+  room = let l = c.before.loop in filled_fits (layout start.args.h) start.args.file.now _ start.args.out.now start.args.h.m start.pre.1 l.k l.o l.base l.out l.invariant below
 
 wide-requires : tie.Need-wide-requires invariant-loop decreases-loop
 wide-requires c κs = search rules
@@ -39,7 +39,7 @@ size-requires : tie.Need-size-requires invariant-loop decreases-loop
 size-requires c κs = search rules
 
 loop-holds : tie.Need-loop-init invariant-loop decreases-loop
-loop-holds c = let s = c.before.before.before in filled-start (layout s.args.h) s.args.file.now s.args.out.now s.args.h.m s.requires.0
+loop-holds c = let s = c.before.before.before in filled_start (layout s.args.h) s.args.file.now s.args.out.now s.args.h.m s.requires.0
 
 two-requires : tie.Need-two-requires invariant-loop decreases-loop
 two-requires c κs = omega (arith, long c)
@@ -74,7 +74,7 @@ loop-again c = let i = c.before.before.before.before in
     let s = start i in
     let l = i.before.loop in
     rw i.before.before.size.ensures
-    (filled-turn (layout s.args.h) s.args.file.now _ s.args.out.now s.args.h.m s.pre.1 l.k l.o l.base l.out l.invariant (below i) c.before.before.before.two.result c.before.before.before.two.ensures.0 _ c.before.fill-places.ensures)
+    (filled_turn (layout s.args.h) s.args.file.now _ s.args.out.now s.args.h.m s.pre.1 l.k l.o l.base l.out l.invariant (below i) c.before.before.before.two.result c.before.before.before.two.ensures.0 _ c.before.fill-places.ensures)
 
 same_length : tie.Need-same-length invariant-loop decreases-loop
 same_length c = c.before.loop.invariant.long
@@ -83,7 +83,7 @@ returns : tie.Need-returns invariant-loop decreases-loop
 unfolding places
 returns c = let s = c.before.before.before.before.before in
     let l = c.before.loop in
-    filled-over (layout s.args.h) s.args.file.now _ s.args.out.now s.args.h.m s.requires.1 l.k l.o l.base l.out l.invariant (let e = c.before.before.before.wide.ensures.0 in omega arith)
+    filled_over (layout s.args.h) s.args.file.now _ s.args.out.now s.args.h.m s.requires.1 l.k l.o l.base l.out l.invariant (let e = c.before.before.before.wide.ensures.0 in omega arith)
 
 pub fill_spec : {M : Type 1} → statement M
 fill_spec =

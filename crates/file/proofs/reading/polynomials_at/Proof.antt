@@ -4,7 +4,7 @@ use Prim.Native.Nat.{ℕ, ◌+◌, ◌-◌, ◌<◌, ◌≤◌}
 use native.Mathlib.Omega.{arith}
 use borrow.Author.Rules.{rules}
 use lib.ListN.{length, drop}
-use Rattle.file.proofs.Walking.{polynomial-long, polynomials-turn, polynomials-stop, polynomials-over}
+use Rattle.file.proofs.Walking.{polynomial_long, polynomials_turn, polynomials_stop, polynomials_over}
 use Rattle.file.specs.Layout.{layout}
 use Rattle.file.specs.Reading.{polynomials}
 use Rattle.file.specs.Bytes.{word16}
@@ -20,7 +20,7 @@ decreases-loop file h m k₀ o₀ k o = m - k
 long : (c : tie.After-enum-told invariant-loop decreases-loop) → c.before.before.before.before.loop.o + 4 + word16 c.before.before.before.before.before.before.before.args.file.now c.before.before.before.before.loop.o ≤ length c.before.before.before.before.before.before.before.args.file.now
 long c =
     let a = c.before.before.before.before.before.before.before.args in
-    (polynomial-long (layout a.h) _ _ a.file.now (sym c.before.before.polynomial-at.ensures ∙ c.enum_told.given.1)).0
+    (polynomial_long (layout a.h) _ _ a.file.now (sym c.before.before.polynomial-at.ensures ∙ c.enum_told.given.1)).0
 
 wide-requires : tie.Need-wide-requires invariant-loop decreases-loop
 wide-requires c κs = search rules
@@ -43,7 +43,7 @@ enum-known-c c = search rules
 returns : tie.Need-returns invariant-loop decreases-loop
 returns c = let l = c.before.before.before.before.before in
     let a = l.before.before.before.args in
-    polynomials-stop (layout a.h) a.file.now _ _ _ l.loop.o _ _ (omega arith) c.before.before.before.polynomial-at.ensures c.before.c.given.1 l.loop.invariant.1
+    polynomials_stop (layout a.h) a.file.now _ _ _ l.loop.o _ _ (omega arith) c.before.before.before.polynomial-at.ensures c.before.c.given.1 l.loop.invariant.1
 
 two-requires : tie.Need-two-requires invariant-loop decreases-loop
 two-requires c κs = omega (arith, long c)
@@ -69,14 +69,14 @@ loop-again c = let l = c.before.before.before.before.before in
     let e : m - k - 1 ≡ m - (k + 1) = omega arith in (
       search rules,
       subst (λ (j : ℕ). polynomials (layout a.h) j (k + 1 + 1) next (drop next a.file.now) ≡ polynomials (layout a.h) a.h.m 1 12 (drop 12 a.file.now)) e
-          (polynomials-turn (layout a.h) a.file.now _ (m - k) (k + 1) l.loop.o c.two.result (omega arith) (sym c.before.before.before.polynomial-at.ensures ∙ c.before.enum_told.given.1) c.two.ensures.0 l.loop.invariant.1),
+          (polynomials_turn (layout a.h) a.file.now _ (m - k) (k + 1) l.loop.o c.two.result (omega arith) (sym c.before.before.before.polynomial-at.ensures ∙ c.before.enum_told.given.1) c.two.ensures.0 l.loop.invariant.1),
     )
 
 end-at-requires : tie.Need-end-at-requires invariant-loop decreases-loop
 end-at-requires c κs = search rules
 
 returns-2 : tie.Need-returns-2 invariant-loop decreases-loop
-returns-2 c = let l = c.before.before in let a = l.before.before.before.args in c.end-at.ensures ∙ polynomials-over (layout a.h) a.file.now _ _ _ l.loop.o (omega arith) l.loop.invariant.1
+returns-2 c = let l = c.before.before in let a = l.before.before.before.args in c.end-at.ensures ∙ polynomials_over (layout a.h) a.file.now _ _ _ l.loop.o (omega arith) l.loop.invariant.1
 
 pub polynomials-at-spec : {M : Type 1} → statement M
 polynomials-at-spec =

@@ -5,7 +5,7 @@ use Prim.Native.Nat.{◌+◌, ◌-◌}
 use native.Mathlib.Omega.{arith}
 use borrow.Author.Rules.{rules}
 use lib.ListN.{take, drop}
-use Rattle.file.proofs.Filling.{Placed, placed-turn, placed-over, placed-start}
+use Rattle.file.proofs.Filling.{Placed, placed_turn, placed_over, placed_start}
 use Rattle.file.specs.Layout.{layout}
 use Rattle.file.specs.Terms.{coefficients}
 use Rattle.whole.proofs.Machine.{back}
@@ -22,7 +22,7 @@ size-requires : tie.Need-size-requires invariant-loop decreases-loop
 size-requires c κs = search rules
 
 loop-holds : tie.Need-loop-init invariant-loop decreases-loop
-loop-holds c = let a = c.before.before.args in placed-start (layout a.h) a.file.now a.out.now (layout a.h).size a.base a.at a.t c.before.before.requires.0
+loop-holds c = let a = c.before.before.args in placed_start (layout a.h) a.file.now a.out.now (layout a.h).size a.base a.at a.t c.before.before.requires.0
 
 found-at-requires : tie.Need-found-at-requires invariant-loop decreases-loop
 found-at-requires c κs = c.before.loop.invariant.room
@@ -47,7 +47,7 @@ loop-again c = let s = c.before.before.before.before.before.before in
     let l = c.before.before.before in
     let f = c.before.found_at in
     rw (back {a = f.result.value} c.struct_told.given.0.1)
-    (placed-turn (layout s.args.h) s.args.file.now _ s.args.out.now (layout s.args.h).size s.args.base s.requires.1 l.loop.p l.loop.o l.loop.left l.loop.out f.result.value f.result.at f.result.left
+    (placed_turn (layout s.args.h) s.args.file.now _ s.args.out.now (layout s.args.h).size s.args.base s.requires.1 l.loop.p l.loop.o l.loop.left l.loop.out f.result.value f.result.at f.result.left
     l.loop.invariant (omega arith) f.ensures.0 f.ensures.1.0 f.ensures.1.1)
 
 same_length : tie.Need-same-length invariant-loop decreases-loop
@@ -57,7 +57,7 @@ returns : tie.Need-returns invariant-loop decreases-loop
 returns c = let s = c.before.before.before.before in
     let a = s.args in
     let l = c.before in
-    placed-over (layout a.h) a.file.now _ a.out.now (layout a.h).size a.base s.requires.1 l.loop.p l.loop.o l.loop.left l.loop.out l.loop.invariant (omega arith)
+    placed_over (layout a.h) a.file.now _ a.out.now (layout a.h).size a.base s.requires.1 l.loop.p l.loop.o l.loop.left l.loop.out l.loop.invariant (omega arith)
     ∙ append_assoc (take a.base a.out.now) (coefficients (layout a.h) (layout a.h).size a.t 0 (drop a.at a.file.now)) (drop (a.base + (layout a.h).size) a.out.now)
 
 pub fill-places-spec : {M : Type 1} → statement M

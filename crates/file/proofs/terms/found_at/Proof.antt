@@ -2,14 +2,14 @@
 use mathlib.Core.Path.{◌∙◌}
 use borrow.Author.Rules.{rules}
 use lib.ListN.{drop}
-use Rattle.file.proofs.Filling.{here-none, here-yes, here-no, not_found, found}
+use Rattle.file.proofs.Filling.{here_none, here_yes, here_no, not_found, found}
 use Rattle.file.specs.Layout.{layout}
 use Rattle.whole.proofs.Machine.{back}
 use Rattle.file.proofs.terms.found_at.Statement.{statement}
 use Rattle.file.proofs.terms.found_at.Tie as tie
 
 returns : tie.Need-returns
-returns c = let a = c.before.before.args in not_found _ _ a.at a.left (here-none (layout a.h) (drop a.at a.file.now) a.p a.left c.if1.true)
+returns c = let a = c.before.before.args in not_found _ _ a.at a.left (here_none (layout a.h) (drop a.at a.file.now) a.p a.left c.if1.true)
 
 place-at-requires : tie.Need-place-at-requires
 place-at-requires c κs = search rules
@@ -25,11 +25,11 @@ sub-t10 c = search rules
 
 returns-2 : tie.Need-returns-2
 returns-2 c = let a = c.before.before.before.before.before.args in
-    found _ _ a.at a.left _ (here-yes (layout a.h) (drop a.at a.file.now) a.p a.left _ c.before.before.before.if1.false c.before.before.place_at.ensures.0 c.before.if2.true)
+    found _ _ a.at a.left _ (here_yes (layout a.h) (drop a.at a.file.now) a.p a.left _ c.before.before.before.if1.false c.before.before.place_at.ensures.0 c.before.if2.true)
     (back {a = c.value-at.result} c.value-at.type-inv ∙ c.value-at.ensures)
 
 returns-3 : tie.Need-returns-3
-returns-3 c = let a = c.before.before.before.before.args in not_found _ _ a.at a.left (here-no (layout a.h) (drop a.at a.file.now) a.p a.left _ c.before.place_at.ensures.0 c.if2.false)
+returns-3 c = let a = c.before.before.before.before.args in not_found _ _ a.at a.left (here_no (layout a.h) (drop a.at a.file.now) a.p a.left _ c.before.place_at.ensures.0 c.if2.false)
 
 pub found-at-spec : {M : Type 1} → statement M
 found-at-spec =

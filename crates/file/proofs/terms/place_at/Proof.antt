@@ -5,8 +5,8 @@ use native.Mathlib.Omega.{arith}
 use borrow.Author.Rules.{rules}
 use Rattle.bernstein.specs.Three.{three}
 use Rattle.system.specs.Heads.{degrees}
-use Rattle.file.proofs.Layouts.{place-of-bytes}
-use Rattle.file.proofs.TermTests.{exponents-there}
+use Rattle.file.proofs.Layouts.{place_of_bytes}
+use Rattle.file.proofs.TermTests.{exponents_there}
 use Rattle.file.specs.Layout.{layout}
 use Rattle.file.specs.Bytes.{byte}
 use Rattle.file.proofs.terms.place_at.Statement.{statement}
@@ -33,8 +33,8 @@ place-requires c κs = search rules
 returns : tie.Need-returns
 returns c = let a = c.before.before.before.before.before.args in
     let k = c.before.shared-slice-known4.given in (
-      c.place.ensures ∙ sym (ap (layout a.h).place (exponents-there a.file.now a.at)),
-      rw c.place.ensures (place-of-bytes (degrees a.h) (three (byte a.file.now a.at) (byte a.file.now (a.at + 1)) (byte a.file.now (a.at + 2))) (search rules) (search rules) (omega (arith, k a.at)) (omega (arith, k (a.at + 1))) (omega (arith, k (a.at + 2)))),
+      c.place.ensures ∙ sym (ap (layout a.h).place (exponents_there a.file.now a.at)),
+      rw c.place.ensures (place_of_bytes (degrees a.h) (three (byte a.file.now a.at) (byte a.file.now (a.at + 1)) (byte a.file.now (a.at + 2))) (search rules) (search rules) (omega (arith, k a.at)) (omega (arith, k (a.at + 1))) (omega (arith, k (a.at + 2)))),
     )
 
 pub place-at-spec : {M : Type 1} → statement M

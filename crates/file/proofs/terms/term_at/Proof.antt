@@ -2,16 +2,16 @@
 use mathlib.Core.Path.{◌≡◌, sym, ap, ◌∙◌}
 use borrow.Author.Rules.{rules}
 use borrow.Author.Tests.{not-true, not-false}
-use Rattle.file.proofs.TermTests.{term-high, term-range, term-zero, term-low, term-fine}
+use Rattle.file.proofs.TermTests.{term_high, term_range, term_zero, term_low, term_fine}
 use Rattle.file.specs.Layout.{layout}
-use Rattle.file.specs.Terms.{in-range, is_zero}
+use Rattle.file.specs.Terms.{in_range, is_zero}
 use Rattle.whole.proofs.Machine.{back}
 use Rattle.file.proofs.terms.term_at.Statement.{statement}
 use Rattle.file.proofs.terms.term_at.Tie as tie
 
 -- the two tests of the coefficient
-range-is : (c : tie.After-in-range) → in-range c.before.value-at.result ≡ c.in-range.result
-range-is c = ap in-range (sym (back {a = c.before.value-at.result} c.before.value-at.type-inv)) ∙ sym c.in-range.ensures
+range-is : (c : tie.After-in-range) → in_range c.before.value-at.result ≡ c.in_range.result
+range-is c = ap in_range (sym (back {a = c.before.value-at.result} c.before.value-at.type-inv)) ∙ sym c.in_range.ensures
 
 zero_is : (c : tie.After-is-zero) → is_zero c.before.before.before.value-at.result ≡ c.is_zero.result
 zero_is c = ap is_zero (sym (back {a = c.before.before.before.value-at.result} c.before.before.before.value-at.type-inv)) ∙ sym c.is_zero.ensures
@@ -20,7 +20,7 @@ within-at-requires : tie.Need-within-at-requires
 within-at-requires c κs = search rules
 
 returns : tie.Need-returns
-returns c = term-high (layout c.before.before.before.args.h) _ _ _ _ c.before.within-at.ensures (not-true _ c.if1.true)
+returns c = term_high (layout c.before.before.before.args.h) _ _ _ _ c.before.within_at.ensures (not-true _ c.if1.true)
 
 value-at-requires : tie.Need-value-at-requires
 value-at-requires c κs = search rules
@@ -30,14 +30,14 @@ in-range-requires c κs = search rules
 
 returns-2 : tie.Need-returns-2
 returns-2 c = let d = c.before.before in
-    term-range (layout d.before.before.before.before.args.h) _ _ _ _ d.before.before.within-at.ensures (not-false _ d.before.if1.false) _ d.value-at.ensures (range-is c.before ∙ not-true _ c.if2.true)
+    term_range (layout d.before.before.before.before.args.h) _ _ _ _ d.before.before.within_at.ensures (not-false _ d.before.if1.false) _ d.value-at.ensures (range-is c.before ∙ not-true _ c.if2.true)
 
 is-zero-requires : tie.Need-is-zero-requires
 is-zero-requires c κs = search rules
 
 returns-3 : tie.Need-returns-3
 returns-3 c = let d = c.before.before.before.before in
-    term-zero (layout d.before.before.before.before.args.h) _ _ _ _ d.before.before.within-at.ensures (not-false _ d.before.if1.false) _ d.value-at.ensures
+    term_zero (layout d.before.before.before.before.args.h) _ _ _ _ d.before.before.within_at.ensures (not-false _ d.before.if1.false) _ d.value-at.ensures
     (range-is c.before.before.before ∙ not-false _ c.before.before.if2.false) (zero_is c.before ∙ c.if3.true)
 
 place-at-requires : tie.Need-place-at-requires
@@ -45,13 +45,13 @@ place-at-requires c κs = search rules
 
 returns-4 : tie.Need-returns-4
 returns-4 c = let d = c.before.before.before.before.before.before in
-    term-low (layout d.before.before.before.before.args.h) _ _ _ _ d.before.before.within-at.ensures (not-false _ d.before.if1.false) _ d.value-at.ensures
+    term_low (layout d.before.before.before.before.args.h) _ _ _ _ d.before.before.within_at.ensures (not-false _ d.before.if1.false) _ d.value-at.ensures
     (range-is c.before.before.before.before.before ∙ not-false _ c.before.before.before.before.if2.false) (zero_is c.before.before.before ∙ c.before.before.if3.false)
     _ c.before.place_at.ensures.0 c.if4.true
 
 returns-5 : tie.Need-returns-5
 returns-5 c = let d = c.before.before.before.before.before.before in
-    term-fine (layout d.before.before.before.before.args.h) _ _ _ _ d.before.before.within-at.ensures (not-false _ d.before.if1.false) _ d.value-at.ensures
+    term_fine (layout d.before.before.before.before.args.h) _ _ _ _ d.before.before.within_at.ensures (not-false _ d.before.if1.false) _ d.value-at.ensures
     (range-is c.before.before.before.before.before ∙ not-false _ c.before.before.before.before.if2.false) (zero_is c.before.before.before ∙ c.before.before.if3.false)
     _ c.before.place_at.ensures.0 c.if4.false
 

@@ -3,7 +3,7 @@ use mathlib.Core.Path.{◌≡◌, refl, sym, ◌∙◌}
 use Prim.Native.Nat.{◌*◌, ◌+◌, ◌≤◌}
 use borrow.Author.Rules.{rules}
 use lib.ListN.{length, drop}
-use Rattle.file.proofs.Walking.{terms-turn, terms-stop, terms-over}
+use Rattle.file.proofs.Walking.{terms_turn, terms_stop, terms_over}
 use Rattle.file.specs.Layout.{layout}
 use Rattle.file.specs.Terms.{terms}
 use Rattle.file.proofs.terms.terms_at.Statement.{statement}
@@ -29,7 +29,7 @@ enum-known-c c = search rules
 
 returns : tie.Need-returns invariant-loop decreases-loop
 returns c = let l = c.before.before.before.before.before in
-    terms-stop _ _ _ l.loop.left l.loop.o l.loop.next _ _ (search rules) c.before.before.before.term-at.ensures c.before.c.given.1 l.loop.invariant.1
+    terms_stop _ _ _ l.loop.left l.loop.o l.loop.next _ _ (search rules) c.before.before.before.term-at.ensures c.before.c.given.1 l.loop.invariant.1
 
 place-at-requires : tie.Need-place-at-requires invariant-loop decreases-loop
 place-at-requires c κs = search rules
@@ -48,10 +48,10 @@ loop-less c = search rules
 
 loop-again : tie.Need-loop-preserved invariant-loop decreases-loop
 loop-again c = let l = c.before.before.before.before.before in
-    (search rules, terms-turn _ _ _ l.loop.left l.loop.o l.loop.next c.place_at.result (search rules) (sym c.before.before.before.term-at.ensures ∙ c.before.enum_told.given.1) c.place_at.ensures.0 l.loop.invariant.1)
+    (search rules, terms_turn _ _ _ l.loop.left l.loop.o l.loop.next c.place_at.result (search rules) (sym c.before.before.before.term-at.ensures ∙ c.before.enum_told.given.1) c.place_at.ensures.0 l.loop.invariant.1)
 
 returns-2 : tie.Need-returns-2 invariant-loop decreases-loop
-returns-2 c = let l = c.before in terms-over _ _ _ l.loop.left l.loop.o l.loop.next (search rules) l.loop.invariant.1
+returns-2 c = let l = c.before in terms_over _ _ _ l.loop.left l.loop.o l.loop.next (search rules) l.loop.invariant.1
 
 pub terms-at-spec : {M : Type 1} → statement M
 terms-at-spec =

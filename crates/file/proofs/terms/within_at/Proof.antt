@@ -1,7 +1,7 @@
 -- `terms::within_at` meets its contract. Assumes nothing.
 use mathlib.Core.Path.{sym, ap, ◌∙◌}
 use borrow.Author.Rules.{rules}
-use Rattle.file.proofs.TermTests.{exponents-there}
+use Rattle.file.proofs.TermTests.{exponents_there}
 use Rattle.file.specs.Layout.{layout}
 use Rattle.file.proofs.terms.within_at.Statement.{statement}
 use Rattle.file.proofs.terms.within_at.Tie as tie
@@ -25,7 +25,7 @@ within-requires : tie.Need-within-requires
 within-requires c κs = search rules
 
 returns : tie.Need-returns
-returns c = let a = c.before.before.before.before.before.args in c.within.ensures ∙ sym (ap (layout a.h).within (exponents-there a.file.now a.at))
+returns c = let a = c.before.before.before.before.before.args in c.within.ensures ∙ sym (ap (layout a.h).within (exponents_there a.file.now a.at))
 
 pub within-at-spec : {M : Type 1} → statement M
 within-at-spec =

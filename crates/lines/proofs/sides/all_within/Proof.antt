@@ -7,13 +7,13 @@ use mir.Syntax.{w64}
 use mir.Val.{to_z}
 use mir.Facts.{to_z-of_z}
 use Rattle.whole.proofs.Machine.{back}
-use Rattle.lines.specs.Sides.{Each, At-most}
+use Rattle.lines.specs.Sides.{Each, AtMost}
 use Rattle.lines.proofs.Parts.{none, joined, last, broken, passed, failed}
 use Rattle.lines.proofs.sides.all_within.Statement.{statement}
 use Rattle.lines.proofs.sides.all_within.Tie as tie
 
 abbrev invariant-loop : tie.invariant-loop
-invariant-loop s start stop bound i₀ i = (start ≤ i) × (i ≤ stop) × Each (At-most (nat_abs (to_z w64 bound))) s start i
+invariant-loop s start stop bound i₀ i = (start ≤ i) × (i ≤ stop) × Each (AtMost (nat_abs (to_z w64 bound))) s start i
 
 abbrev decreases-loop : tie.decreases-loop
 decreases-loop s start stop bound i₀ i = stop - i

@@ -3,7 +3,7 @@ use native.Mathlib.Omega.{arith}
 use borrow.Author.Rules.{rules}
 use Rattle.whole.proofs.Machine.{back}
 use Rattle.bernstein.specs.Points.{above, below}
-use Rattle.lines.proofs.Parts.{one_side, first_above, first-not, failed}
+use Rattle.lines.proofs.Parts.{one_side, first_above, first_not, failed}
 use Rattle.lines.proofs.sides.side_of.Statement.{statement}
 use Rattle.lines.proofs.sides.side_of.Tie as tie
 
@@ -22,7 +22,7 @@ all-below c = let s = c.before.before.before.before.before in one_side s.require
 mixed-below : tie.Need-returns-4
 mixed-below c =
     let s = c.before.before.before.before.before in
-    first-not s.requires.0 (failed (rw (back c.before.before.before.before.has-arg.given) at c.before.before.before.has.ensures) c.before.before.if1.false)
+    first_not s.requires.0 (failed (rw (back c.before.before.before.before.has-arg.given) at c.before.before.before.has.ensures) c.before.before.if1.false)
     (failed c.before.all-have2.ensures c.if3.false)
 
 pub side-of-spec : {M : Type 1} → statement M

@@ -8,7 +8,7 @@ returns : tie.Need-returns
 returns c =
     let told = c.before.before in
     let e = told.before.before.before in
-    rw (sym e.read.ensures.0 ∙ told.a.given.1, e.read.ensures.1, c.head-numbers.ensures) refl
+    rw (sym e.read.ensures.0 ∙ told.a.given.1, e.read.ensures.1, c.head_numbers.ensures) refl
 
 returns-2 : tie.Need-returns-2
 returns-2 c =

@@ -1,8 +1,8 @@
 -- `malachirp_run` meets its contract: by the cases of what `run` answers. Assumes nothing.
 use mathlib.Core.Path.{◌≡◌, refl, sym, ◌∙◌}
 use borrow.Author.Rules.{rules}
-use Rattle.malachirp.specs.Codes.{head-from, state-from}
-use Rattle.malachirp.proofs.Unchanged.{run-refused}
+use Rattle.malachirp.specs.Codes.{head_from, state_from}
+use Rattle.malachirp.proofs.Unchanged.{run_refused}
 use Rattle.malachirp.proofs.running.malachirp_run.Statement.{statement}
 use Rattle.malachirp.proofs.running.malachirp_run.Tie as tie
 
@@ -10,26 +10,26 @@ module _ (e : tie.After-run) where
   abbrev start : tie.Start
   start = e.before.before.before.before.before.before.before
 
-  head-is : head-from start.args.head.now ≡ e.before.before.before.head-from.result
-  head-is = sym e.before.before.before.head-from.ensures
+  head_is : head_from start.args.head.now ≡ e.before.before.before.head_from.result
+  head_is = sym e.before.before.before.head_from.ensures
 
-  state-is : state-from start.args.state.now ≡ e.before.state-from.result
-  state-is = sym e.before.state-from.ensures
+  state-is : state_from start.args.state.now ≡ e.before.state_from.result
+  state-is = sym e.before.state_from.ensures
 
 returns : tie.Need-returns
 returns c =
     let told = c.before.before.before.before in
     let e = told.before.before.before.before.before in
     let x = sym e.run.ensures.0 ∙ told.a.given.1 in
-    rw (head-is e, state-is e, x, e.run.ensures.1.1, e.run.ensures.1.0, c.before.state-numbers.ensures, c.number.ensures) refl
+    rw (head_is e, state-is e, x, e.run.ensures.1.1, e.run.ensures.1.0, c.before.state_numbers.ensures, c.number.ensures) refl
 
 returns-2 : tie.Need-returns-2
 returns-2 c =
     let told = c.before.before.before in
     let e = told.before.before.before.before.before in
     let x = sym e.run.ensures.0 ∙ told.a2.given.1 in
-    let same = run-refused _ _ (start e).args.list.now _ _ _ x in
-    rw (head-is e, state-is e, x, e.run.ensures.1.1 ∙ same.0, e.run.ensures.1.0 ∙ same.1, c.refuse.ensures.0, c.refuse.ensures.1) refl
+    let same = run_refused _ _ (start e).args.list.now _ _ _ x in
+    rw (head_is e, state-is e, x, e.run.ensures.1.1 ∙ same.0, e.run.ensures.1.0 ∙ same.1, c.refuse.ensures.0, c.refuse.ensures.1) refl
 
 pub malachirp-run-spec : {M : Type 1} → statement M
 malachirp-run-spec =

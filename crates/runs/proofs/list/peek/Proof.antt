@@ -19,13 +19,13 @@ use denote.Index.{place_is, elem_out, elem_back, looks_slice, shuts_slice}
 use denote.Struct.Laws as LL
 use denote.Triple.Walked.{says}
 use Rattle.waiting.specs.declared.cursor.Kept.{Kept}
-use Rattle.waiting.specs.Steps.{nothing-kept}
+use Rattle.waiting.specs.Steps.{nothing_kept}
 use Rattle.waiting.specs.contracts.cursor.Kept as entry-type
 use Rattle.waiting.proofs.cursor.Kept.TheLaws as entry-laws
 use Rattle.walks.proofs.Closing.{closes}
-use Rattle.walks.proofs.Data.{number, value, shown, stays, all_go, spelled, told, typed, slice-typed}
-use Rattle.walks.proofs.Edges.{enters, ends-datum}
-use Rattle.runs.proofs.Kepts.{nothing-fits, scaled}
+use Rattle.walks.proofs.Data.{number, value, shown, stays, all_go, spelled, told, typed, slice_typed}
+use Rattle.walks.proofs.Edges.{enters, ends_datum}
+use Rattle.runs.proofs.Kepts.{nothing_fits, scaled}
 use Rattle.walks.proofs.Lent.{seen}
 use Rattle.walks.proofs.Locals.{upto, none, full, room, begins, passes, local, field, sets, tests, leaves}
 use Rattle.runs.proofs.Passed.{entry, Rec}
@@ -46,12 +46,12 @@ peek_spec 𝓤 𝓛 𝓜 𝓡 =
     let b : ℕ = a.0.ptr.0 in
     let o : ℕ = a.0.ptr.1 in
     let i : ℕ = a.1.0 in
-    let found : Kept = get_or list i nothing-kept in
+    let found : Kept = get_or list i nothing_kept in
     let slice : Fml = seen Rec κs.0 b o n a.0.name list in
     let exits : (d : Kept) → d ≡ found → Is Rec d (entry.val d ∷ []) → ent 𝓤 (⋆ 𝓛 (‵ slice ∷ ‵ (flft κs.0 qs.0) ∷ [])) (Q (entry.val d)) =
-    λ d e is. qed 𝓛 (‵ slice ∷ ‵ (flft κs.0 qs.0) ∷ []) ∵ suffices ! _ (finish _ d (tt, (tt, tt)) (tt, (tt, tt))) $ says ! e $ by ! (ends-datum 𝓛 κs.0 qs.0 slice ds a.1 are.1 entry d is) in
+    λ d e is. qed 𝓛 (‵ slice ∷ ‵ (flft κs.0 qs.0) ∷ []) ∵ suffices ! _ (finish _ d (tt, (tt, tt)) (tt, (tt, tt))) $ says ! e $ by ! (ends_datum 𝓛 κs.0 qs.0 slice ds a.1 are.1 entry d is) in
     enters 𝓛 κs.0 qs.0 slice ds a.1 ∵
-    begins ! _ _ code.function _ Q (λ l₀ l₁ l₂ l₃ l₄ l₅ l₆ l₇. params1 ! $ passes ! 2 refl (slice-typed Rec (b, o) are.0.0.1) $ passes ! 4 refl (typed (number w64) 𝓛 i are.1.0).0 $ pass0 ! $
+    begins ! _ _ code.function _ Q (λ l₀ l₁ l₂ l₃ l₄ l₅ l₆ l₇. params1 ! $ passes ! 2 refl (slice_typed Rec (b, o) are.0.0.1) $ passes ! 4 refl (typed (number w64) 𝓛 i are.1.0).0 $ pass0 ! $
     sets ! 0 (of_opd ! (field ! 0 refl refl tt)) refl (tt, record { fits = are.0.0.1.0 }) $ sets ! 0 (bin ! (local ! 0 refl) (local ! 0 refl) tt) refl (tt, tt) $
     tests ! 𝓣 (local ! 0 refl)
     (λ less. let in_List : i < n = ltb→lt i n less in
@@ -60,11 +60,11 @@ peek_spec 𝓤 𝓛 𝓜 𝓡 =
     -- [the fractured borrow; the token; res; the list's fact; the locals]
     move ! (16 ∷ []) $ fsplit ! $ move ! (1 ∷ []) $ fsplit ! $ move ! (1 ∷ 19 ∷ []) $
     looks_slice ! tt Rec (Is Rec) (shows 𝓛 Rec) (λ x. entry.val x ∷ []) entry.tells (LL.copy entry-type.the_type entry-laws.the_copy 𝓛) list b o (λ q.
-    elem_out ! Rec (Is Rec) (shows 𝓛 Rec) (λ x. entry.val x ∷ []) entry.tells q list i nothing-kept b o in_List (λ is.
+    elem_out ! Rec (Is Rec) (shows 𝓛 Rec) (λ x. entry.val x ∷ []) entry.tells q list i nothing_kept b o in_List (λ is.
     -- [list[at]; what it owns; the others; what shuts; the fractured borrow; res; the list's fact; the locals]
     sets ! 7 (of_opd ! (load ! (from ! (hop ! (look ! 19 refl) (stop !))) (look_raw ! 0 refl))) refl (typed entry 𝓛 found is).0 $ sets ! 7 (of_opd ! (local ! 7 refl)) refl (typed entry 𝓛 found is).0 $
-    elem_back ! Rec q list i nothing-kept (entry.val found ∷ []) b o in_List $ shuts_slice ! tt Rec q list b o $
+    elem_back ! Rec q list i nothing_kept (entry.val found ∷ []) b o in_List $ shuts_slice ! tt Rec q list b o $
     -- [the token; the fractured borrow; res; the list's fact; the locals]
     move ! (2 ∷ 1 ∷ []) $ fjoin ! $ move ! (2 ∷ 0 ∷ []) $ fjoin ! $ move ! (upto 2 16) $ leaves ! (full (full (full (full (full (full (full (full none)))))))) $ by ! (exits found refl is))))
-    (λ over. sets ! 0 (agg ! (and_then ! (lit ! tt) (and_then ! (lit ! tt) (and_then ! (lit ! tt) (and_then ! (lit ! tt) (and_then ! (lit ! tt) (and_then ! (lit ! tt) (and_then ! (lit ! tt) (no_more !))))))))) refl (typed entry 𝓛 nothing-kept nothing-fits).0 $
-    leaves ! (full (full (full (full (full (room (room (room none)))))))) $ by ! (exits nothing-kept (sym (get_or-eq_default list nothing-kept (nltb→le i n over))) nothing-fits))))
+    (λ over. sets ! 0 (agg ! (and_then ! (lit ! tt) (and_then ! (lit ! tt) (and_then ! (lit ! tt) (and_then ! (lit ! tt) (and_then ! (lit ! tt) (and_then ! (lit ! tt) (and_then ! (lit ! tt) (no_more !))))))))) refl (typed entry 𝓛 nothing_kept nothing_fits).0 $
+    leaves ! (full (full (full (full (full (room (room (room none)))))))) $ by ! (exits nothing_kept (sym (get_or-eq_default list nothing_kept (nltb→le i n over))) nothing_fits))))

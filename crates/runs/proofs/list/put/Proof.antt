@@ -19,10 +19,10 @@ use denote.Slice.{slice_val, Room, mut_slice_at, mut_slice_vals}
 use denote.Index.{place_is, elem_out, elem_put, opens_slice, closes_slice}
 use denote.Triple.Walked.{says}
 use Rattle.waiting.specs.declared.cursor.Kept.{Kept}
-use Rattle.waiting.specs.Steps.{nothing-kept}
+use Rattle.waiting.specs.Steps.{nothing_kept}
 use Rattle.walks.proofs.Closing.{closes}
-use Rattle.walks.proofs.Data.{number, nothing, value, lent, stays, all_go, spelled, told, typed, slice-typed}
-use Rattle.walks.proofs.Edges.{enters, ends-datum, made}
+use Rattle.walks.proofs.Data.{number, nothing, value, lent, stays, all_go, spelled, told, typed, slice_typed}
+use Rattle.walks.proofs.Edges.{enters, ends_datum, made}
 use Rattle.runs.proofs.Kepts.{scaled, set_past}
 use Rattle.walks.proofs.Lent.{held}
 use Rattle.walks.proofs.Locals.{upto, none, full, room, begins, passes, local, field, sets, tests, leaves}
@@ -47,15 +47,15 @@ put_spec 𝓤 𝓛 𝓜 𝓡 =
     let d : Kept = a.1.1.0 in
     let slice : List Kept → Fml = λ l. held Rec κs.0 b o n a.0.name l in
     let exits : (l : List Kept) → l ≡ set list i d → ent 𝓤 (⋆ 𝓛 (‵ (slice l) ∷ ‵ (flft κs.0 qs.0) ∷ [])) (Q vunit) =
-    λ l e. qed 𝓛 (‵ (slice l) ∷ ‵ (flft κs.0 qs.0) ∷ []) ∵ suffices ! _ (finish _ tt (l, (tt, (tt, tt))) (ap length e ∙ length-set list i d, (tt, (tt, tt)))) $ says ! e $ by ! (ends-datum 𝓛 κs.0 qs.0 (slice l) ds a.1 are.1 nothing tt refl) in
+    λ l e. qed 𝓛 (‵ (slice l) ∷ ‵ (flft κs.0 qs.0) ∷ []) ∵ suffices ! _ (finish _ tt (l, (tt, (tt, tt))) (ap length e ∙ length-set list i d, (tt, (tt, tt)))) $ says ! e $ by ! (ends_datum 𝓛 κs.0 qs.0 (slice l) ds a.1 are.1 nothing tt refl) in
     enters 𝓛 κs.0 qs.0 (slice list) ds a.1 ∵
-    begins ! _ _ code.function _ Q (λ l₀ l₁ l₂ l₃ l₄ l₅ l₆ l₇. params1 ! $ passes ! 2 refl (slice-typed Rec (b, o) are.0.0.1) $ passes ! 4 refl (typed (number w64) 𝓛 i are.1.0).0 $ passes ! 6 refl (typed entry 𝓛 d are.1.1.0).0 $ pass0 ! $
+    begins ! _ _ code.function _ Q (λ l₀ l₁ l₂ l₃ l₄ l₅ l₆ l₇. params1 ! $ passes ! 2 refl (slice_typed Rec (b, o) are.0.0.1) $ passes ! 4 refl (typed (number w64) 𝓛 i are.1.0).0 $ passes ! 6 refl (typed entry 𝓛 d are.1.1.0).0 $ pass0 ! $
     sets ! 0 (of_opd ! (field ! 0 refl refl tt)) refl (tt, record { fits = are.0.0.1.0 }) $ sets ! 0 (bin ! (local ! 0 refl) (local ! 0 refl) tt) refl (tt, tt) $
     tests ! 𝓣 (local ! 0 refl)
     (λ less. let in_List : i < n = ltb→lt i n less in
     sets ! 0 (bin ! (local ! 0 refl) (lit ! tt) (scaled i n in_List are.0.0.1)) refl (tt, scaled i n in_List are.0.0.1) $ sets ! 0 (bin ! (field ! 0 refl refl tt) (local ! 0 refl) tt) refl (tt, tt) $
     rewrite ! 14 (λ (p : ℕ). ‵ (fat full_share ty_ptr l₇ 0 (vptr b p))) (sym (place_is 14 o i)) refl $
-    move ! (16 ∷ 17 ∷ []) $ fsplit ! $ pure_l ! (mut_slice_at Rec a.0 (mut_slice_vals a.0)) (λ _. fsplit ! $ opens_slice ! tt Rec list b o $ elem_out ! Rec (Is Rec) (shows 𝓛 Rec) (λ x. entry.val x ∷ []) entry.tells full_share list i nothing-kept b o in_List (λ _.
+    move ! (16 ∷ 17 ∷ []) $ fsplit ! $ pure_l ! (mut_slice_at Rec a.0 (mut_slice_vals a.0)) (λ _. fsplit ! $ opens_slice ! tt Rec list b o $ elem_out ! Rec (Is Rec) (shows 𝓛 Rec) (λ x. entry.val x ∷ []) entry.tells full_share list i nothing_kept b o in_List (λ _.
     -- [list[at]; what it owns; the others; the open borrow; obs; auth; the locals]
     assigns ! (of_opd ! (local ! 6 refl)) (from ! (hop ! (look ! 20 refl) (stop !))) (store_raw ! 0 refl (typed entry 𝓛 d are.1.1.0).0) $
     move ! (1 ∷ []) $ drop ! $ made ! entry d are.1.1.0 $ move ! (1 ∷ 0 ∷ []) $ elem_put ! Rec full_share list i d (entry.val d ∷ []) b o in_List $ closes_slice ! tt Rec list (set list i d) (length-set list i d) b o $ fjoin ! $

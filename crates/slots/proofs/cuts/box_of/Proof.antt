@@ -2,7 +2,7 @@
 use mathlib.Core.Path.{refl}
 use native.Mathlib.Omega.{arith}
 use Rattle.bernstein.specs.Three.{first, second, third}
-use Rattle.slots.proofs.Laying.{position-high}
+use Rattle.slots.proofs.Laying.{position_high}
 use Rattle.slots.proofs.cuts.box_of.Statement.{statement}
 use Rattle.slots.proofs.cuts.box_of.Tie as tie
 
@@ -15,16 +15,16 @@ pub box-of-spec : {M : Type 1} → statement M
 box-of-spec =
     tie.close
     (tie.spec
-    (λ c κs. (omega arith, (c.requires.1 first).s-low))
-    (λ c. omega (arith, c.count_at.ensures, (c.before.requires.1 first).s-high))
-    (λ c κs. (omega arith, (c.before.requires.1 first).k-low))
-    (λ c. omega (arith, c.count-at2.ensures, position-high (c.before.before.requires.1 first)))
-    (λ c κs. (omega arith, (c.before.before.requires.1 second).s-low))
-    (λ c. omega (arith, c.count-at3.ensures, (c.before.before.before.requires.1 second).s-high))
-    (λ c κs. (omega arith, (c.before.before.before.requires.1 second).k-low))
-    (λ c. omega (arith, c.count-at4.ensures, position-high (c.before.before.before.before.requires.1 second)))
-    (λ c κs. (omega arith, (c.before.before.before.before.requires.1 third).s-low))
-    (λ c. omega (arith, c.count-at5.ensures, (c.before.before.before.before.before.requires.1 third).s-high))
-    (λ c κs. (omega arith, (c.before.before.before.before.before.requires.1 third).k-low))
-    (λ c. omega (arith, c.count-at6.ensures, position-high (c.before.before.before.before.before.before.requires.1 third)))
+    (λ c κs. (omega arith, (c.requires.1 first).s_low))
+    (λ c. omega (arith, c.count_at.ensures, (c.before.requires.1 first).s_high))
+    (λ c κs. (omega arith, (c.before.requires.1 first).k_low))
+    (λ c. omega (arith, c.count-at2.ensures, position_high (c.before.before.requires.1 first)))
+    (λ c κs. (omega arith, (c.before.before.requires.1 second).s_low))
+    (λ c. omega (arith, c.count-at3.ensures, (c.before.before.before.requires.1 second).s_high))
+    (λ c κs. (omega arith, (c.before.before.before.requires.1 second).k_low))
+    (λ c. omega (arith, c.count-at4.ensures, position_high (c.before.before.before.before.requires.1 second)))
+    (λ c κs. (omega arith, (c.before.before.before.before.requires.1 third).s_low))
+    (λ c. omega (arith, c.count-at5.ensures, (c.before.before.before.before.before.requires.1 third).s_high))
+    (λ c κs. (omega arith, (c.before.before.before.before.before.requires.1 third).k_low))
+    (λ c. omega (arith, c.count-at6.ensures, position_high (c.before.before.before.before.before.before.requires.1 third)))
     returns)

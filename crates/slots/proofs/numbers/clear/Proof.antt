@@ -5,7 +5,7 @@ use Prim.Native.Nat.{◌-◌, ◌≤◌}
 use native.Mathlib.Omega.{arith}
 use lib.IntN.{ℤ, pos}
 use lib.ListN.{length, set, length-set}
-use Rattle.slots.proofs.Tests.{cleared, cleared-on, cleared-end}
+use Rattle.slots.proofs.Tests.{cleared, cleared_on, cleared_end}
 use Rattle.slots.proofs.numbers.clear.Statement.{statement}
 use Rattle.slots.proofs.numbers.clear.Tie as tie
 
@@ -20,11 +20,11 @@ loop-again c =
     let a = c.before in (
       omega arith,
       length-set a.loop.slot a.loop.i (pos 0) ∙ a.loop.invariant.1,
-      ap (λ (t : List ℤ). set t a.loop.i (pos 0)) a.loop.invariant.2 ∙ cleared-on a.before.args.slot.now a.loop.i (omega arith),
+      ap (λ (t : List ℤ). set t a.loop.i (pos 0)) a.loop.invariant.2 ∙ cleared_on a.before.args.slot.now a.loop.i (omega arith),
     )
 
 returns : tie.Need-returns invariant-loop decreases-loop
-returns c = let a = c.before in a.loop.invariant.2 ∙ cleared-end a.before.args.slot.now a.loop.i (omega arith) (omega arith)
+returns c = let a = c.before in a.loop.invariant.2 ∙ cleared_end a.before.args.slot.now a.loop.i (omega arith) (omega arith)
 
 pub clear_spec : {M : Type 1} → statement M
 clear_spec =

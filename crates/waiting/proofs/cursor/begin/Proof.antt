@@ -5,7 +5,7 @@ use Rattle.waiting.proofs.cursor.begin.Statement.{statement}
 use Rattle.waiting.proofs.cursor.begin.Tie as tie
 
 returns : tie.Need-returns
-returns c = rw c.nothing-kept.ensures refl
+returns c = rw c.nothing_kept.ensures refl
 
 pub begin-spec : {M : Type 1} → statement M
 begin-spec =

@@ -5,7 +5,7 @@ use Rattle.waiting.proofs.cursor.halt.Statement.{statement}
 use Rattle.waiting.proofs.cursor.halt.Tie as tie
 
 returns : tie.Need-returns
-returns c = rw c.nothing-kept.ensures refl
+returns c = rw c.nothing_kept.ensures refl
 
 pub halt-spec : {M : Type 1} → statement M
 halt-spec =

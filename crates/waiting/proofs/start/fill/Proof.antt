@@ -4,7 +4,7 @@ use mathlib.Core.Path.{◌≡◌, refl}
 use native.Mathlib.Omega.{arith}
 use borrow.Author.Rules.{rules}
 use Rattle.system.specs.Heads.{depth, width}
-use Rattle.waiting.proofs.Starting.{filled-inside, filled}
+use Rattle.waiting.proofs.Starting.{filled_inside, filled}
 use Rattle.waiting.proofs.start.fill.Statement.{statement}
 use Rattle.waiting.proofs.start.fill.Tie as tie
 
@@ -26,7 +26,7 @@ part-clear-end c =
     let w = c.before.before.before.before.width in
     let d = c.before.before.before.depth in
     omega
-    (arith, filled-inside s.args.h s.args.coefficients.now s.args.store.now w.ensures d.ensures s.requires.3 c.before.start.new.0 c.before.start.ensures)
+    (arith, filled_inside s.args.h s.args.coefficients.now s.args.store.now w.ensures d.ensures s.requires.3 c.before.start.new.0 c.before.start.ensures)
 
 returns : tie.Need-returns
 returns c =

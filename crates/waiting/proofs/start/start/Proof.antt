@@ -1,15 +1,15 @@
 -- `start` meets its contract. Assumes nothing.
 use mathlib.Core.Path.{refl, sym, ◌∙◌}
 use borrow.Author.Rules.{rules}
-use Rattle.waiting.proofs.Starting.{start-passes}
+use Rattle.waiting.proofs.Starting.{start_passes}
 use Rattle.waiting.proofs.start.start.Statement.{statement}
 use Rattle.waiting.proofs.start.start.Tie as tie
 
 fill-requires : tie.Need-fill-requires
 fill-requires c κs =
     let s = c.before.before.before.before.before in
-    let f = start-passes s.args.h s.args.coefficients.now s.args.store.now (sym c.before.before.before.check-start.ensures ∙ c.before.enum_told.given.1) in
-    (f.limits, f.enough, f.every-in-range, f.long)
+    let f = start_passes s.args.h s.args.coefficients.now s.args.store.now (sym c.before.before.before.check-start.ensures ∙ c.before.enum_told.given.1) in
+    (f.limits, f.enough, f.every_in_range, f.long)
 
 returns : tie.Need-returns
 returns c =

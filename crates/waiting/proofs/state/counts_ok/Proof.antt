@@ -5,18 +5,18 @@ use native.Mathlib.Omega.{arith}
 use borrow.Author.Tests.{lt-leb, le-leb}
 use borrow.Author.Rules.{rules}
 use Rattle.system.specs.Heads.{depth}
-use Rattle.waiting.specs.States.{counts-ok}
+use Rattle.waiting.specs.States.{counts_ok}
 use Rattle.waiting.proofs.state.counts_ok.Statement.{statement}
 use Rattle.waiting.proofs.state.counts_ok.Tie as tie
 
 returns : tie.Need-returns
-unfolding counts-ok
+unfolding counts_ok
 returns c =
     let s = c.before.before.before in
     rw (lt-leb s.args.s.waiting (suc (depth s.args.h)) (omega (arith, c.if1.true, c.before.before.depth.ensures))) refl
 
 returns-2 : tie.Need-returns-2
-unfolding counts-ok
+unfolding counts_ok
 returns-2 c =
     let s = c.before.before.before.before.before in
     rw (
@@ -25,7 +25,7 @@ returns-2 c =
     ) refl
 
 returns-3 : tie.Need-returns-3
-unfolding counts-ok
+unfolding counts_ok
 returns-3 c =
     let s = c.before.before.before.before.before.before in
     let b = c.before.before.before in

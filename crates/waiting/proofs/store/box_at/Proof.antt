@@ -5,21 +5,21 @@ use native.Mathlib.Omega.{arith}
 use borrow.Author.Rules.{rules}
 use lib.IntN.{ℤ}
 use Rattle.system.specs.Heads.{width}
-use Rattle.boxes.specs.Boxes.{from-box}
+use Rattle.boxes.specs.Boxes.{from_box}
 use Rattle.slots.specs.Slots.{box_in}
-use Rattle.waiting.proofs.Slotting.{within-ten, slot_is}
+use Rattle.waiting.proofs.Slotting.{within_ten, slot_is}
 use Rattle.waiting.proofs.store.box_at.Statement.{statement}
 use Rattle.waiting.proofs.store.box_at.Tie as tie
 
 box-of-requires : tie.Need-box-of-requires
 box-of-requires c κs =
     let s = c.before.before.before in
-    rw (slot_is s.args.p c.before.before.start_of.ensures c.before.width.ensures s.args.store.now) (omega (arith, s.requires.1.long), within-ten s.requires.1)
+    rw (slot_is s.args.p c.before.before.start_of.ensures c.before.width.ensures s.args.store.now) (omega (arith, s.requires.1.long), within_ten s.requires.1)
 
 returns : tie.Need-returns
 returns c =
     let s = c.before.before.before.before in
-    c.box_of.ensures ∙ ap (λ (l : List ℤ). from-box (box_in l))
+    c.box_of.ensures ∙ ap (λ (l : List ℤ). from_box (box_in l))
     (slot_is s.args.p c.before.before.before.start_of.ensures c.before.before.width.ensures s.args.store.now)
 
 pub box-at-spec : {M : Type 1} → statement M

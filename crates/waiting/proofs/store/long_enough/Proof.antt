@@ -2,18 +2,18 @@
 use mathlib.Core.Path.{refl}
 use native.Mathlib.Omega.{arith}
 use borrow.Author.Rules.{rules}
-use Rattle.system.proofs.Heads.{slots-high}
-use Rattle.waiting.proofs.Slotting.{needed-is}
+use Rattle.system.proofs.Heads.{slots_high}
+use Rattle.waiting.proofs.Slotting.{needed_is}
 use Rattle.waiting.proofs.store.long_enough.Statement.{statement}
 use Rattle.waiting.proofs.store.long_enough.Tie as tie
 
 mul-result : tie.Need-overflow-mul-result
 mul-result c =
     let h = c.before.before.args.h in
-    omega (arith, needed-is h c.before.depth.ensures c.width.ensures, slots-high h c.before.before.requires)
+    omega (arith, needed_is h c.before.depth.ensures c.width.ensures, slots_high h c.before.before.requires)
 
 returns : tie.Need-returns
-returns c = rw (needed-is c.before.before.args.h c.before.depth.ensures c.width.ensures) refl
+returns c = rw (needed_is c.before.before.args.h c.before.depth.ensures c.width.ensures) refl
 
 pub long-enough-spec : {M : Type 1} → statement M
 long-enough-spec =

@@ -12,7 +12,7 @@ returns c =
     rw (
       back {a = at s.args.slot.now s.args.i} c.before.before.span-ok-arg.given,
       back {a = at s.args.slot.now (s.args.i + 1)} c.before.span-ok-arg2.given,
-    ) at c.span-ok.ensures
+    ) at c.span_ok.ensures
 
 pub span-at-spec : {M : Type 1} → statement M
 span-at-spec =

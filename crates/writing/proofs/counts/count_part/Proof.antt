@@ -9,7 +9,7 @@ use mir.Syntax.{w64}
 use mir.Val.{to_z, of_z}
 use Rattle.file.specs.Terms.{is_zero}
 use Rattle.whole.proofs.Machine.{back}
-use Rattle.writing.proofs.Counting.{count_none, count_turn, count-whole, unless-le}
+use Rattle.writing.proofs.Counting.{count_none, count_turn, count_whole, unless_le}
 use Rattle.writing.specs.Counts.{count}
 use Rattle.writing.proofs.counts.count_part.Statement.{statement}
 use Rattle.writing.proofs.counts.count_part.Tie as tie
@@ -50,12 +50,12 @@ loop-again c = let s = c.before.before.before.before in
       search rules,
       (
         count_turn s.args.xs.now s.args.base s.args.n s.requires.0 l.i l.r c.counted.result y (search rules) (search rules) l.invariant.1.0 (back {a = x} c.before.counted-arg.given) c.counted.ensures,
-        rw (c.counted.ensures, e) (unless-le (is_zero y) l.r (s.args.n - l.i) l.invariant.1.1),
+        rw (c.counted.ensures, e) (unless_le (is_zero y) l.r (s.args.n - l.i) l.invariant.1.1),
       ),
     )
 
 returns : tie.Need-returns invariant-loop decreases-loop
-returns c = let s = c.before.before in let l = c.before.loop in (count-whole s.args.xs.now s.args.base s.args.n l.i l.r (search rules) l.invariant.1.0, search rules)
+returns c = let s = c.before.before in let l = c.before.loop in (count_whole s.args.xs.now s.args.base s.args.n l.i l.r (search rules) l.invariant.1.0, search rules)
 
 pub count-part-spec : {M : Type 1} → statement M
 count-part-spec =

@@ -3,12 +3,12 @@ use native.Mathlib.Omega.{arith}
 use borrow.Author.Rules.{rules}
 use lib.ListN.{length-set}
 use Rattle.file.proofs.Putting.{put_front}
-use Rattle.writing.specs.Writing.{record-bytes, head-body}
+use Rattle.writing.specs.Writing.{record_bytes, head_body}
 use Rattle.writing.proofs.pieces.put_head.Statement.{statement}
 use Rattle.writing.proofs.pieces.put_head.Tie as tie
 
 returns : tie.Need-returns
-returns c = put_front c.args.t.now (record-bytes 1 (head-body c.args.h)) c.requires
+returns c = put_front c.args.t.now (record_bytes 1 (head_body c.args.h)) c.requires
 
 pub put-head-spec : {M : Type 1} → statement M
 put-head-spec =

@@ -2,7 +2,7 @@
 use borrow.Author.Rules.{rules}
 use lib.ListN.{take, drop}
 use Rattle.file.specs.Layout.{layout}
-use Rattle.writing.proofs.Joining.{record-put}
+use Rattle.writing.proofs.Joining.{record_put}
 use Rattle.writing.proofs.polynomials.put_polynomial.Statement.{statement}
 use Rattle.writing.proofs.polynomials.put_polynomial.Tie as tie
 
@@ -42,7 +42,7 @@ returns c = let h = c.before.before.before.before.before.before.before.before.be
     let s = n.before.before.before in
     let b = c.before.before.before.before.before.before.put_byte in
     let p = c.before.before.put-terms in
-    record-put (layout s.args.h) s.args.k (take (layout s.args.h).size (drop s.args.base s.args.xs.now)) s.args.t.now s.args.at s.requires.0 n.count-part.result (rw n.before.size.ensures at n.count-part.ensures.0)
+    record_put (layout s.args.h) s.args.k (take (layout s.args.h).size (drop s.args.base s.args.xs.now)) s.args.t.now s.args.at s.requires.0 n.count-part.result (rw n.before.size.ensures at n.count-part.ensures.0)
     h.put-header.new.0 h.put-header.ensures b.new.0 b.ensures p.result p.new.0 p.ensures.0 p.ensures.1
 
 pub put-polynomial-spec : {M : Type 1} → statement M

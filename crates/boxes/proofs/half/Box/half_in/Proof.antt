@@ -2,7 +2,7 @@
 use mathlib.Core.Path.{sym, ap, ◌∙◌}
 use native.Mathlib.Omega.{arith}
 use borrow.Author.Rules.{rules}
-use Rattle.boxes.proofs.Halves.{half-child, half-deepest, part-cuts, part_small, half-with}
+use Rattle.boxes.proofs.Halves.{half_child, half_deepest, part_cuts, part_small, half_with}
 use Rattle.boxes.specs.Boxes.{direction, half_at}
 use Rattle.boxes.specs.declared.half.Box.{Box}
 use Rattle.boxes.specs.declared.half.Child.{Child}
@@ -19,8 +19,8 @@ returns : tie.Need-returns
 returns c =
     let p = c.before.before.before in
     let z = p.before.args in
-    let s = part-cuts z.self (direction z.r) p.part.result.s p.part.result.k p.part.ensures in
-    c.outside.ensures ∙ sym (half-deepest (half_at z.side) z.self (direction z.r) (omega (arith, c.before.if1.true)))
+    let s = part_cuts z.self (direction z.r) p.part.result.s p.part.result.k p.part.ensures in
+    c.outside.ensures ∙ sym (half_deepest (half_at z.side) z.self (direction z.r) (omega (arith, c.before.if1.true)))
 
 add-t7 : tie.Need-overflow-add-t7
 add-t7 c = search rules
@@ -44,9 +44,9 @@ returns-2 : tie.Need-returns-2
 returns-2 c =
     let p = c.before.before.before.before.before in
     let z = p.before.args in
-    let s = part-cuts z.self (direction z.r) p.part.result.s p.part.result.k p.part.ensures in
-    ap (λ (b : Box). Child.At b) (c.with.ensures ∙ half-with z.self (direction z.r) p.part.result.s p.part.result.k p.part.ensures z.side p.before.requires.0)
-    ∙ sym (half-child (half_at z.side) z.self (direction z.r) (omega (arith, c.before.before.before.if1.false)))
+    let s = part_cuts z.self (direction z.r) p.part.result.s p.part.result.k p.part.ensures in
+    ap (λ (b : Box). Child.At b) (c.with.ensures ∙ half_with z.self (direction z.r) p.part.result.s p.part.result.k p.part.ensures z.side p.before.requires.0)
+    ∙ sym (half_child (half_at z.side) z.self (direction z.r) (omega (arith, c.before.before.before.if1.false)))
 
 pub half-in-spec : {M : Type 1} → statement M
 half-in-spec =

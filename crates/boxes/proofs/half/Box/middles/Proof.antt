@@ -3,7 +3,7 @@ use mathlib.Core.Path.{sym, ◌∙◌}
 use borrow.Author.Rules.{rules}
 use borrow.Author.Tests.{not-true, not-false}
 use Rattle.bernstein.specs.Three.{first, second, third}
-use Rattle.boxes.proofs.Halves.{part-within}
+use Rattle.boxes.proofs.Halves.{part_within}
 use Rattle.boxes.specs.declared.middle.Placed.{Placed}
 use Rattle.boxes.proofs.half.Box.middles.Statement.{statement}
 use Rattle.boxes.proofs.half.Box.middles.Tie as tie
@@ -15,16 +15,16 @@ at-start-requires : tie.Need-at-start-requires
 at-start-requires c κs = search rules
 
 returns : tie.Need-returns
-returns c = rw (sym c.before.before.ok.ensures ∙ not-true _ c.before.if1.true, c.at-start.ensures)
+returns c = rw (sym c.before.before.ok.ensures ∙ not-true _ c.before.if1.true, c.at_start.ensures)
 
 interval-requires : tie.Need-interval-requires
-interval-requires c κs = part-within c.before.before.args.self (sym c.before.ok.ensures ∙ not-false _ c.if1.false) first
+interval-requires c κs = part_within c.before.before.args.self (sym c.before.ok.ensures ∙ not-false _ c.if1.false) first
 
 interval-requires-2 : tie.Need-interval-requires-2
-interval-requires-2 c κs = part-within c.before.before.before.args.self (sym c.before.before.ok.ensures ∙ not-false _ c.before.if1.false) second
+interval-requires-2 c κs = part_within c.before.before.before.args.self (sym c.before.before.ok.ensures ∙ not-false _ c.before.if1.false) second
 
 interval-requires-3 : tie.Need-interval-requires-3
-interval-requires-3 c κs = part-within c.before.before.before.before.args.self (sym c.before.before.before.ok.ensures ∙ not-false _ c.before.before.if1.false) third
+interval-requires-3 c κs = part_within c.before.before.before.before.args.self (sym c.before.before.before.ok.ensures ∙ not-false _ c.before.before.if1.false) third
 
 returns-2 : tie.Need-returns-2
 returns-2 c =

@@ -6,9 +6,9 @@ use native.Mathlib.Omega.{arith}
 use borrow.Author.Rules.{rules}
 use lib.ListN.{length}
 use Rattle.desk.specs.Text.{decimal, ended, line}
-use Rattle.desk.proofs.Joining.{fits-b, fits-c, fits-d, all-four}
-use Rattle.desk.specs.Lines.{refused, at, refused-line}
-use Rattle.desk.proofs.Sizes.{refused-short}
+use Rattle.desk.proofs.Joining.{fits_b, fits_c, fits_d, all_four}
+use Rattle.desk.specs.Lines.{refused, at, refused_line}
+use Rattle.desk.proofs.Sizes.{refused_short}
 use Rattle.desk.proofs.printing.first.put_refused.Statement.{statement}
 use Rattle.desk.proofs.printing.first.put_refused.Tie as tie
 
@@ -33,13 +33,13 @@ module _ (p : tie.After-put-word) where
 
   fit : 0 + length (A ++ (B ++ (C ++ D))) ≤ length t0
   unfolding line ended
-  fit = omega (arith, s.pre, refused-short s.args.n s.args.offset (omega (arith, s.fits.n)) (omega (arith, s.fits.offset)))
+  fit = omega (arith, s.pre, refused_short s.args.n s.args.offset (omega (arith, s.fits.n)) (omega (arith, s.fits.offset)))
 
 put-number-requires : tie.Need-put-number-requires
 put-number-requires c κs =
     let p = c.before.before.before in
     let w = p.put_word in
-    fits-b (t0 p) 0 A (B p) C (D p) (fit p) w.result w.new.0 w.ensures.0 w.ensures.1
+    fits_b (t0 p) 0 A (B p) C (D p) (fit p) w.result w.new.0 w.ensures.0 w.ensures.1
 
 put-word-requires-2 : tie.Need-put-word-requires-2
 put-word-requires-2 c κs =
@@ -47,7 +47,7 @@ put-word-requires-2 c κs =
     let p = q.before.before.before.before in
     let w = p.put_word in
     let n = q.put-number in
-    fits-c (t0 p) 0 A (B p) C (D p) (fit p) w.result w.new.0 w.ensures.0 w.ensures.1 n.result n.new.0 n.ensures.0 n.ensures.1
+    fits_c (t0 p) 0 A (B p) C (D p) (fit p) w.result w.new.0 w.ensures.0 w.ensures.1 n.result n.new.0 n.ensures.0 n.ensures.1
 
 put-rest-requires : tie.Need-put-rest-requires
 put-rest-requires c κs =
@@ -57,7 +57,7 @@ put-rest-requires c κs =
     let w = p.put_word in
     let n = q.put-number in
     let v = r.put-word2 in
-    fits-d (t0 p) 0 A (B p) C (D p) (fit p) w.result w.new.0 w.ensures.0 w.ensures.1 n.result n.new.0 n.ensures.0 n.ensures.1
+    fits_d (t0 p) 0 A (B p) C (D p) (fit p) w.result w.new.0 w.ensures.0 w.ensures.1 n.result n.new.0 n.ensures.0 n.ensures.1
     v.result v.new.0 v.ensures.0 v.ensures.1
 
 returns : tie.Need-returns
@@ -70,7 +70,7 @@ returns c =
     let n = q.put-number in
     let v = r.put-word2 in
     let e = c.before.before.put_rest in
-    let f = all-four (t0 p) 0 A (B p) C (D p) (fit p) w.result w.new.0 w.ensures.0 w.ensures.1 n.result n.new.0 n.ensures.0
+    let f = all_four (t0 p) 0 A (B p) C (D p) (fit p) w.result w.new.0 w.ensures.0 w.ensures.1 n.result n.new.0 n.ensures.0
     n.ensures.1 v.result v.new.0 v.ensures.0 v.ensures.1 e.result e.new.0 e.ensures.0 e.ensures.1 in
     (omega (arith, f.0), f.1)
 

@@ -7,8 +7,8 @@ use borrow.Author.Rules.{rules}
 use lib.ListN.{length}
 use Rattle.desk.specs.Text.{decimal, ended, line}
 use Rattle.desk.proofs.Joining.{second_fits, joined}
-use Rattle.desk.specs.Lines.{word, stop-line}
-use Rattle.desk.proofs.Sizes.{stop-short}
+use Rattle.desk.specs.Lines.{word, stop_line}
+use Rattle.desk.proofs.Sizes.{stop_short}
 use Rattle.desk.proofs.printing.first.put_stop.Statement.{statement}
 use Rattle.desk.proofs.printing.first.put_stop.Tie as tie
 
@@ -22,8 +22,8 @@ module _ (c : tie.After-put-answer-word) where
   abbrev b : List ℕ
   b = ended (decimal s.args.visits ∷ decimal s.args.dropped ∷ decimal s.args.kept ∷ decimal s.args.waiting ∷ [])
 
-  short : length (stop-line s.args.w s.args.visits s.args.dropped s.args.kept s.args.waiting) ≤ 93
-  short = stop-short s.args.w s.args.visits s.args.dropped s.args.kept s.args.waiting (omega (arith, s.fits.visits))
+  short : length (stop_line s.args.w s.args.visits s.args.dropped s.args.kept s.args.waiting) ≤ 93
+  short = stop_short s.args.w s.args.visits s.args.dropped s.args.kept s.args.waiting (omega (arith, s.fits.visits))
       (omega (arith, s.fits.dropped)) (omega (arith, s.fits.kept)) (omega (arith, s.fits.waiting))
 
   fit : 0 + length (a ++ b) ≤ length s.args.t.now

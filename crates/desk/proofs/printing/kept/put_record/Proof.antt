@@ -8,7 +8,7 @@ use Rattle.runs.specs.Lists.{seven, first}
 use Rattle.desk.specs.Text.{decimal, ended, line}
 use Rattle.desk.proofs.Joining.{first_fits, second_fits, joined}
 use Rattle.desk.specs.Lines.{kept_line}
-use Rattle.desk.proofs.Lists.{first-number}
+use Rattle.desk.proofs.Lists.{first_number}
 use Rattle.desk.proofs.printing.kept.put_record.Statement.{statement}
 use Rattle.desk.proofs.printing.kept.put_record.Tie as tie
 
@@ -28,7 +28,7 @@ module _ (c : tie.After-others) where
   both : kept_line (first xs) ≡ a ++ b
   unfolding line
   both =
-      ap (λ (n : ℕ). decimal n ++ ended (map decimal (drop 1 (seven (first xs))))) (first-number s.args.from s.args.list.now ∙ sym c.before.wide.ensures)
+      ap (λ (n : ℕ). decimal n ++ ended (map decimal (drop 1 (seven (first xs))))) (first_number s.args.from s.args.list.now ∙ sym c.before.wide.ensures)
       ∙ ap (λ (ns : List ℕ). a ++ ended (map decimal ns)) (sym c.others.ensures)
 
   fit : s.args.at + length (a ++ b) ≤ length s.args.t.now

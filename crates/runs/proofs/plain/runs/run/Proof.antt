@@ -6,11 +6,11 @@ use borrow.Author.Rules.{rules}
 use lib.ListN.{length}
 use Rattle.waiting.specs.Cells.{boxed}
 use Rattle.waiting.specs.Runs.{way, went}
-use Rattle.waiting.proofs.Driving.{turns-left}
+use Rattle.waiting.proofs.Driving.{turns_left}
 use Rattle.runs.specs.Lists.{listed}
-use Rattle.runs.proofs.Lists.{length-listed}
+use Rattle.runs.proofs.Lists.{length_listed}
 use Rattle.runs.proofs.Opening.{opens}
-use Rattle.runs.proofs.Going.{Going, going, going-length, may-step, fewer, goes_on, stopped}
+use Rattle.runs.proofs.Going.{Going, going, going_length, may_step, fewer, goes_on, stopped}
 use Rattle.runs.proofs.plain.runs.run.Statement.{statement}
 use Rattle.runs.proofs.plain.runs.run.Tie as tie
 
@@ -18,17 +18,17 @@ abbrev invariant-loop : tie.invariant-loop
 invariant-loop store₀ list₀ h budget n v c₀ store list c = Going h list₀ (length store₀) (went (boxed h) (budget + 1) (way (listed list₀) store₀ c₀)) list store c
 
 abbrev decreases-loop : tie.decreases-loop
-decreases-loop store₀ list₀ h budget n v c₀ store list c = turns-left c
+decreases-loop store₀ list₀ h budget n v c₀ store list c = turns_left c
 
 loop-holds : tie.Need-loop-init invariant-loop decreases-loop
 loop-holds c =
     let s = c.before.before.before.before.before.before in
     let a = s.args in
     going (opens a.h a.s a.budget a.list.now a.store.now c.before.before.before.room.ensures c.before.check.ensures c.«open».ensures)
-    (omega (arith, length-listed a.list.now)) (omega (arith, s.ranges.budget))
+    (omega (arith, length_listed a.list.now)) (omega (arith, s.ranges.budget))
 
 step-requires : tie.Need-step-requires invariant-loop decreases-loop
-step-requires c κs = may-step c.before.before.loop.invariant c.before.loop-test.true
+step-requires c κs = may_step c.before.before.loop.invariant c.before.loop-test.true
 
 loop-less : tie.Need-loop-smaller invariant-loop decreases-loop
 loop-less c =
@@ -47,7 +47,7 @@ same_length : tie.Need-same-length invariant-loop decreases-loop
 same_length c = c.before.before.loop.invariant.good.stored
 
 same-length-2 : tie.Need-same-length-2 invariant-loop decreases-loop
-same-length-2 c = going-length c.before.before.loop.invariant
+same-length-2 c = going_length c.before.before.loop.invariant
 
 returns : tie.Need-returns invariant-loop decreases-loop
 returns c =

@@ -2,9 +2,9 @@
 use mathlib.Core.Path.{◌∙◌}
 use native.Mathlib.Omega.{arith}
 use borrow.Author.Rules.{rules}
-use Rattle.runs.proofs.Lists.{length-listed}
+use Rattle.runs.proofs.Lists.{length_listed}
 use Rattle.runs.proofs.Opening.{opens}
-use Rattle.runs.proofs.Seeing.{may-see, saw, saw-nothing}
+use Rattle.runs.proofs.Seeing.{may_see, saw, saw_nothing}
 use Rattle.runs.proofs.plain.visits.visit.Statement.{statement}
 use Rattle.runs.proofs.plain.visits.visit.Tie as tie
 
@@ -14,7 +14,7 @@ step-seen-requires c κs =
     let s = b.before.before.before.before.before.before in
     let a = s.args in
     let o = opens a.h a.s 1 a.list.now a.store.now b.before.before.before.room.ensures b.before.check.ensures b.«open».ensures in
-    may-see o (omega (arith, length-listed a.list.now)) c.before.if1.true
+    may_see o (omega (arith, length_listed a.list.now)) c.before.if1.true
 
 returns : tie.Need-returns
 returns c =
@@ -34,7 +34,7 @@ returns-2 c =
     let s = b.before.before.before.before.before.before in
     let a = s.args in
     let o = opens a.h a.s 1 a.list.now a.store.now b.before.before.before.room.ensures b.before.check.ensures b.«open».ensures in
-    let q = saw-nothing o c.before.before.if1.false c.before.unmade.result c.before.unmade.ensures in
+    let q = saw_nothing o c.before.before.if1.false c.before.unmade.result c.before.unmade.ensures in
     (c.tell2.ensures ∙ q.0, q.1)
 
 pub visit-spec : {M : Type 1} → statement M

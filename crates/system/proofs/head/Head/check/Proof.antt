@@ -16,7 +16,7 @@ returns : tie.Need-returns
 returns c = rw (sym c.before.ok.ensures ∙ c.if1.true)
 
 returns-2 : tie.Need-returns-2
-returns-2 c = rw (sym c.before.before.ok.ensures ∙ c.before.if1.false) (ap (λ (w : Refused). Checked.Refused w) c.at-start.ensures)
+returns-2 c = rw (sym c.before.before.ok.ensures ∙ c.before.if1.false) (ap (λ (w : Refused). Checked.Refused w) c.at_start.ensures)
 
 pub check-spec : {M : Type 1} → statement M
 check-spec = tie.close (tie.spec ok-requires at-start-requires returns returns-2)

@@ -49,7 +49,7 @@ returns c =
       c.before.before.before.before.variable-ok3.ensures,
       c.before.before.before.before.before.both2.ensures,
       c.before.before.before.before.before.before.variable-ok2.ensures,
-      c.before.before.before.before.before.before.before.variable-ok.ensures,
+      c.before.before.before.before.before.before.before.variable_ok.ensures,
       c.before.before.before.before.before.before.before.before.both.ensures,
       c.before.before.before.before.before.before.before.before.before.from-to2.ensures,
       c.before.before.before.before.before.before.before.before.before.before.from-to.ensures,

@@ -2,7 +2,7 @@
 use mathlib.Core.Path.{refl}
 use native.Mathlib.Omega.{arith}
 use borrow.Author.Rules.{rules}
-use Rattle.system.proofs.Sizes.{product_high, size-of-bytes}
+use Rattle.system.proofs.Sizes.{product_high, size_of_bytes}
 use Rattle.system.specs.Heads.{places, degrees}
 use Rattle.system.proofs.head.Head.places.Statement.{statement}
 use Rattle.system.proofs.head.Head.places.Tie as tie
@@ -16,7 +16,7 @@ size-requires c κs = search rules
 mul-result : tie.Need-overflow-mul-result
 mul-result c =
     let h = c.before.before.args.self in
-    let s = size-of-bytes (degrees h) (omega arith) (omega arith) (omega arith) in
+    let s = size_of_bytes (degrees h) (omega arith) (omega arith) (omega arith) in
     omega (arith, product_high c.before.wide.result c.size.result 255 16777216 (omega arith) (omega arith))
 
 returns : tie.Need-returns
