@@ -22,7 +22,7 @@ read h = to_z-of_z (fits_64 h)
 
 -- from what a call's `.ok` or a read's `.given` says
 pub back : {a : ℤ} → mag a < 2 ^ 63 → to_z w64 (of_z w64 a) ≡ a
-back h = to_z-of_z (record { sfits = h })
+back h = to_z-of_z {w = w64} (record { sfits = h })
 
 -- ---- sums, products, powers of two, negation
 module _ {a b : ℤ} (p : Below (2 ^ 62) a) (q : Below (2 ^ 62) b) where
