@@ -50,7 +50,7 @@ parts n i t e = row e t *ℤ pow (low i) (e - t) *ℤ pow (grid i) (n - e)
 two_pow : (s m : ℕ) → pos (2 ^ (s * m)) ≡ pow (pos (2 ^ s)) m
 two_pow s zero = ap (λ (x : ℕ). pos (2 ^ x)) (NatL.mul-zero s) ∙ sym (pow_zero _)
 two_pow s (suc m) =
-    ap pos (ap (λ (x : ℕ). 2 ^ x) (NatL.mul-suc s m) ∙ lib.Pow.pow_add 2 (s * m) s) ∙ ap (λ z. z *ℤ pos (2 ^ s)) (two_pow s m) ∙ sym (pow_suc _ m)
+    ap pos (ap (λ (x : ℕ). 2 ^ x) (NatL.mul-suc s m) ∙ lib.Pow.pow-add 2 (s * m) s) ∙ ap (λ z. z *ℤ pos (2 ^ s)) (two_pow s m) ∙ sym (pow_suc _ m)
 
 moved_is : (n : ℕ) (i : Span) (t : ℕ) (a : Line) → moved_line n i t a ≡ comb (suc n) (parts n i t) a
 moved_is n i t a = ap (λ α. comb (suc n) α a) (fun_ext λ e. ap₂ (λ x y. row e t *ℤ x *ℤ y) (sym (pow_pos i.position (e - t))) (two_pow i.cuts (n - e)))

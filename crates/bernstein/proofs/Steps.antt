@@ -84,5 +84,5 @@ steps_at x y n g = λ i. steps (x i) (y i) n g
 -- ---- powers of natural numbers
 pub pow_pos : (b n : ℕ) → pow (pos b) n ≡ pos (b ^ n)
 unfolding pow one
-pow_pos b zero = ap pos (sym (NatL.pow_zero b))
-pow_pos b (suc n) = ap (λ z. z *ℤ pos b) (pow_pos b n) ∙ ap pos (sym (NatL.pow_suc b n))
+pow_pos b zero = ap pos (sym (NatL.pow-zero b))
+pow_pos b (suc n) = ap (λ z. z *ℤ pos b) (pow_pos b n) ∙ ap pos (sym (NatL.pow-suc b n))
