@@ -17,10 +17,12 @@ module _ {A : Type 0} (P : A → Type 0) where
   any_snoc (y ∷ l) x (inl (inl p)) = inl p
   any_snoc (y ∷ l) x (inl (inr a)) = inr (any_snoc l x (inl a))
   any_snoc (y ∷ l) x (inr p) = inr (any_snoc l x (inr p))
+  any_snoc [] x (inl x4) = elim x4 [ ]
 
   pub any_map : (Q : A → Type 0) → ((x : A) → P x → Q x) → (l : List A) → Any P l → Any Q l
   any_map Q f (x ∷ l) (inl p) = inl (f x p)
   any_map Q f (x ∷ l) (inr a) = inr (any_map Q f l a)
+  any_map Q f [] x' = elim x' [ ]
 
   -- Each member is related to some member, if to itself.
   pub all_self : (R : A → A → Type 0) → ((x : A) → R x x) → (l : List A) → ((x : A) → Any (R x) l → P x) → All P l
@@ -35,15 +37,21 @@ module _ {A B : Type 0} (R : A → B → Type 0) where
   pub both_length : (l : List A) (m : List B) → Both R l m → length l ≡ length m
   both_length [] [] b = refl
   both_length (x ∷ l) (y ∷ m) b = ap suc (both_length l m b.1)
+  both_length [] (y ∷ m) b = elim b [ ]
+  both_length (x ∷ l) [] b = elim b [ ]
 
   pub both_append : (l : List A) (m : List B) (l' : List A) (m' : List B) → Both R l m → Both R l' m' → Both R (l ++ l') (m ++ m')
   both_append [] [] l' m' b c = c
   both_append (x ∷ l) (y ∷ m) l' m' b c = (b.0, both_append l m l' m' b.1 c)
+  both_append [] (y ∷ m) l' m' b c = elim b [ ]
+  both_append (x ∷ l) [] l' m' b c = elim b [ ]
 
 module _ {A : Type 0} (R : A → A → Type 0) where
   pub both_path : (f : (x y : A) → R x y → x ≡ y) (l m : List A) → Both R l m → l ≡ m
   both_path f [] [] b = refl
   both_path f (x ∷ l) (y ∷ m) b = cc (f x y b.0, both_path f l m b.1)
+  both_path f [] (y ∷ m) b = elim b [ ]
+  both_path f (x ∷ l) [] b = elim b [ ]
 
   pub both_self : (r : (x : A) → R x x) (l : List A) → Both R l l
   both_self r [] = tt

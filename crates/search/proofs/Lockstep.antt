@@ -43,6 +43,8 @@ module _ (S T : Search) (L : Link S T) (M : Mimics S T L) where
     where
       top : (w : List S.Node) (w' : List T.Node) → Both L.Nodes w w' → Steps room (state w s.kept s.visits s.dropped) (state w' t.kept t.visits t.dropped)
       top [] [] b = record { turns = refl; visits = record { waiting = tt; kept = p.kept; visits = p.visits; dropped = p.dropped }; notes = tt }
+      top [] (m ∷ w') b = elim b [ ]
+      top (n ∷ w) [] b = elim b [ ]
       top (n ∷ w) (m ∷ w') b = record {
         turns = rw (both_length (SameEntry L.Places) s.kept t.kept p.kept) (alike_turn _ (M.looks n m b.0));
         visits = step_become n m (state w s.kept s.visits s.dropped) (state w' t.kept t.visits t.dropped) b.0
