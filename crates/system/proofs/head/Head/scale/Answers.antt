@@ -1,0 +1,12 @@
+-- `Head::scale` meets its contract. Assumes nothing.
+use mathlib.Core.Path.{refl}
+use Prim.Native.Nat.{◌*◌}
+use native.Mathlib.Omega.{arith}
+use borrow.Author.Rules.{rules}
+use Rattle.system.proofs.Sizes.{product_high}
+use Rattle.system.specs.Heads.{scale}
+use Rattle.system.proofs.head.Head.scale.Goals as goal
+
+pub returns : goal.returns
+unfolding scale
+returns c = rw (c.factor.ensures.0, c.factor-2.ensures.0, c.factor-3.ensures.0) refl
