@@ -9,14 +9,14 @@ ghost use Rattle.boxes.specs.Boxes.{direction, as_box, from_box, span_ok, box_ok
 use system::refusal::{Refusal, Refused};
 use system::test::{both, from_to};
 
-#[derive(Drop)]
+#[derive(Clone, Copy)]
 pub enum Direction {
     First,
     Second,
     Third,
 }
 
-#[derive(Drop)]
+#[derive(Clone, Copy)]
 pub struct Box {
     pub s1: u8,
     pub k1: u16,
@@ -26,14 +26,14 @@ pub struct Box {
     pub k3: u16,
 }
 
-#[derive(Drop)]
+#[derive(Clone, Copy)]
 pub enum Child {
     At(Box),
     Refused(Refused),
 }
 
 // What a box has in one direction.
-#[derive(Drop)]
+#[derive(Clone, Copy)]
 struct Part {
     s: u8,
     k: u16,

@@ -6,7 +6,7 @@ ghost use Rattle.boxes.specs.Middles.{over_power, middle, half_width, placed};
 use crate::half::Box;
 use system::refusal::{Refusal, Refused};
 
-#[derive(Drop)]
+#[derive(Clone, Copy)]
 pub struct Middles {
     pub middle1: f64,
     pub half1: f64,
@@ -16,14 +16,14 @@ pub struct Middles {
     pub half3: f64,
 }
 
-#[derive(Drop)]
+#[derive(Clone, Copy)]
 pub enum Placed {
     At(Middles),
     Refused(Refused),
 }
 
 // One direction.
-#[derive(Drop)]
+#[derive(Clone, Copy)]
 struct Pair {
     middle: f64,
     half: f64,

@@ -4,13 +4,13 @@ ghost use Rattle.boxes.specs.Visits.{sign_number, outcome_numbers, word_number};
 
 use crate::half::{Box, Direction};
 
-#[derive(Drop)]
+#[derive(Clone, Copy)]
 pub enum Sign {
     Above,
     Below,
 }
 
-#[derive(Drop)]
+#[derive(Clone, Copy)]
 pub enum Outcome {
     // The polynomial that drops the box.
     Dropped(u8, Sign),
@@ -19,13 +19,13 @@ pub enum Outcome {
     Cut(Direction),
 }
 
-#[derive(Drop)]
+#[derive(Clone, Copy)]
 pub struct Visit {
     pub at: Box,
     pub what: Outcome,
 }
 
-#[derive(Drop)]
+#[derive(Clone, Copy)]
 pub enum Word {
     Finished,
     Spent,
@@ -33,7 +33,7 @@ pub enum Word {
 }
 
 // An outcome taken apart, for printing: which case, its value, and a drop's sign.
-#[derive(Drop)]
+#[derive(Clone, Copy)]
 pub struct Numbers {
     pub case: u8,
     pub value: u8,

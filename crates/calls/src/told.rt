@@ -4,7 +4,7 @@ use system::refusal::Refused;
 use waiting::state::State;
 
 // The words by their numbers in `answers`, 0 for none. The word `then` follows the first number.
-#[derive(Drop)]
+#[derive(Clone, Copy)]
 pub struct Told {
     pub word: u8,
     pub then: u8,

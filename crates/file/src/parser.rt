@@ -6,7 +6,7 @@ use system::head::Checked;
 use system::refusal::{Refusal, Refused};
 
 // The lengths that a body may have: base, and up to `most` times `unit` more.
-#[derive(Drop)]
+#[derive(Clone, Copy)]
 pub struct Shape {
     pub base: usize,
     pub unit: usize,
@@ -14,7 +14,7 @@ pub struct Shape {
 }
 
 // A record: its kind, where its body starts, and the body's length.
-#[derive(Drop)]
+#[derive(Clone, Copy)]
 pub enum Step {
     Record {
         kind: usize,

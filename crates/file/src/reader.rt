@@ -5,7 +5,7 @@ ghost use Rattle.file.specs.Reads.{after};
 
 use crate::parser::{Step, body_at, record_at};
 
-#[derive(Drop)]
+#[derive(Clone, Copy)]
 pub struct Reader<'a> {
     pub file: &'a [u8],
     pub at: usize,

@@ -9,7 +9,7 @@ use crate::terms::{fill_places, terms_at};
 use system::head::{Checked, Head};
 use system::refusal::{Refusal, Refused};
 
-#[derive(Drop)]
+#[derive(Clone, Copy)]
 pub enum Answer {
     System(Head),
     Refused(Refused),

@@ -109,7 +109,7 @@ pub(crate) fn terms_at(file: &[u8], at: usize, t: usize, h: Head) -> Checked
 }
 
 // A coefficient, and where the next term is.
-#[derive(Drop)]
+#[derive(Clone, Copy)]
 struct Found {
     value: i64,
     at: usize,

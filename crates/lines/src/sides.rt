@@ -3,7 +3,7 @@ ghost use Rattle.std.specs.Prelude.{◌≡◌, true, ◌↔◌, ◌+◌, ◌<◌
 ghost use Rattle.bernstein.specs.Points.{Has};
 ghost use Rattle.lines.specs.Sides.{Each, AtMost, sign, SideIs};
 
-#[derive(Drop)]
+#[derive(Clone, Copy)]
 pub enum Side {
     Above,
     Below,

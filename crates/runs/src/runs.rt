@@ -11,13 +11,13 @@ use waiting::cursor::{Cursor, Kept, begin, halt};
 use waiting::state::{State, check};
 use waiting::step::step;
 
-#[derive(Drop)]
+#[derive(Clone, Copy)]
 pub struct Stop {
     pub word: Word,
     pub state: State,
 }
 
-#[derive(Drop)]
+#[derive(Clone, Copy)]
 pub enum Answer {
     Stopped(Stop),
     Refused(Refused),

@@ -13,13 +13,13 @@ use waiting::state::{State, check};
 use waiting::step::{Made, step_seen};
 
 // The state after the visit, and what was visited.
-#[derive(Drop)]
+#[derive(Clone, Copy)]
 pub struct Seen {
     pub state: State,
     pub visit: Visit,
 }
 
-#[derive(Drop)]
+#[derive(Clone, Copy)]
 pub enum Answer {
     Saw(Seen),
     Stopped(Word),

@@ -13,14 +13,14 @@ use boxes::half::Direction;
 use boxes::visit::Sign;
 
 // The lowest polynomial whose numbers have one strict sign, if one has.
-#[derive(Drop)]
+#[derive(Clone, Copy)]
 pub enum Decision {
     By(u8, Sign),
     Open,
 }
 
 // The direction to cut in, if one is below its depth.
-#[derive(Drop)]
+#[derive(Clone, Copy)]
 pub enum Choice {
     Along(Direction),
     Nowhere,

@@ -10,7 +10,7 @@ fn broken_off() -> bool {
 }
 
 // How many bytes were read, and whether that is all up to the input's end or the file's room.
-#[derive(Drop)]
+#[derive(Clone, Copy)]
 pub struct Input {
     pub count: usize,
     pub whole: bool,

@@ -8,7 +8,7 @@ ghost use Rattle.system.specs.Heads.{degrees, places, depth, width, scale, varia
 use crate::refusal::{Refusal, Refused};
 use crate::test::{both, either, from_to};
 
-#[derive(Drop)]
+#[derive(Clone, Copy)]
 pub struct Head {
     pub l: u8,
     pub m: u8,
@@ -20,7 +20,7 @@ pub struct Head {
     pub g3: u8,
 }
 
-#[derive(Drop)]
+#[derive(Clone, Copy)]
 pub enum Checked {
     Good,
     Refused(Refused),

@@ -2,7 +2,7 @@
 ghost use Rattle.std.specs.Prelude.{◌≡◌};
 ghost use Rattle.system.specs.Refusals.{number, at_start};
 
-#[derive(Drop)]
+#[derive(Clone, Copy)]
 pub enum Refusal {
     Ended,
     NotDue,
@@ -16,7 +16,7 @@ pub enum Refusal {
     OutsideRules,
 }
 
-#[derive(Drop)]
+#[derive(Clone, Copy)]
 pub struct Refused {
     pub why: Refusal,
     pub at: usize,

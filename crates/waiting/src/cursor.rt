@@ -8,7 +8,7 @@ use boxes::half::Box;
 use boxes::visit::Word;
 
 // A kept box, as the list has it.
-#[derive(Drop)]
+#[derive(Clone, Copy)]
 pub struct Kept {
     pub s1: u8,
     pub k1: u16,
@@ -19,7 +19,7 @@ pub struct Kept {
     pub mark: u8,
 }
 
-#[derive(Drop)]
+#[derive(Clone, Copy)]
 pub struct Cursor {
     // Whether the run goes on; if not, `word` is its answer.
     pub go: bool,

@@ -11,7 +11,7 @@ use slots::numbers::{clear, in_range};
 use system::head::{Checked, Head};
 use system::refusal::{Refusal, Refused};
 
-#[derive(Drop)]
+#[derive(Clone, Copy)]
 pub enum Started {
     Begun(State),
     Refused(Refused),

@@ -8,7 +8,7 @@ use system::head::{Checked, Head};
 use system::refusal::Refusal;
 
 // The four counts.
-#[derive(Drop)]
+#[derive(Clone, Copy)]
 pub struct State {
     pub waiting: usize,
     pub kept: usize,

@@ -11,14 +11,14 @@ use boxes::visit::{Outcome, Visit, Word};
 use system::head::Head;
 
 // What the rules say before a visit: a stop, or what becomes of the top box.
-#[derive(Drop)]
+#[derive(Clone, Copy)]
 pub enum Due {
     Stop(Word),
     Visit(Outcome),
 }
 
 // A cursor after one visit, and the visit, if one was made.
-#[derive(Drop)]
+#[derive(Clone, Copy)]
 pub struct Made {
     pub cursor: Cursor,
     pub visit: Visit,

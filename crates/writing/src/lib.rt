@@ -11,7 +11,7 @@ ghost use Rattle.writing.specs.Writing.{writes};
 use system::head::{Checked, Head};
 use system::refusal::{Refusal, Refused};
 
-#[derive(Drop)]
+#[derive(Clone, Copy)]
 pub enum Written {
     Length(usize),
     Refused(Refused),
