@@ -20,7 +20,7 @@ use base.Fraction.{full_share}
 use mir.Syntax.{Callee, Place, Opd as Operand, Body, named, seq, call}
 use mir.Val.{Val}
 use base.Logic.{SProp, ent, sep, ex, emp, guard, id⊢, fst∗}
-use base.Fml.{Lft, GName, Share, Fml, Incl-refl, ftrue, feq, fsep, flft, fobs, fauth, flent, fobor}
+use base.Fml.{Lft, GName, Share, Fml, Incl-refl, ftrue, feq, fsep, flft, fobs, fauth, flent, fbor, fobor}
 use prog.Wp.{Env, Calls, Loops}
 use types.Logic.{Logic, sem}
 use sound.WpLaws.{FmC}
@@ -68,8 +68,8 @@ abbrev around : (bs : List Datum) → Denots (rows bs) → Fml → Fml
 around [] a F = F
 around (d ∷ bs) a F = fsep (d.row.own_val a.0 (d.val a.0 ∷ [])) (around bs a.1 F)
 
-abbrev last : (R : RattleType) → List R.Denot → ℕ → GName → List R.Denot → Fml
-last R ys k δ l = fsep (fsep (finally R δ l) (feq ℕ (length l) (length ys))) (trues k)
+abbrev last : (R : RattleType) → Lft → ℕ → ℕ → List R.Denot → ℕ → GName → List R.Denot → Fml
+last R κ b o ys k δ l = fsep (fsep (fsep (finally R δ l) (feq ℕ (length l) (length ys))) (fbor κ (Held R (length ys) b o δ))) (trues k)
 
 module _ {M : Type 1} {𝓤 : Ura M} (𝓛 : Logic 𝓤) where
   open 𝓛 use {H, A}
@@ -112,15 +112,15 @@ module _ {M : Type 1} {𝓤 : Ura M} (𝓛 : Logic 𝓤) where
         qed 𝓛 (later (some (λ (r' : d.row.Denot). (raw tok ⊛ ‵ (d.row.own_val r' (w ∷ []))) ⊛ some (λ (ws : Units k). ‵ (trues k) ⊛ raw (fact 𝓤 (Φ r'))))) ∷ []) ∵ updating ! $ await ! tt $ pick ! (λ r'. split ! $ move ! (1 ∷ []) $ pick ! (λ ws. split ! $ drop ! $ heard ! (Φ r') (λ φ.
         split ! $ move ! (1 ∷ []) $ peeks ! d.row (Is d.row) (shows 𝓛 d.row) r' (w ∷ []) (λ is. at_once ! $ check ! (has d r' r w (says r' φ) is, tt) $ true ! $ keep ! (2 ∷ 0 ∷ []) $ done !))))
 
-    -- and of a slice before them: it says the last list, zs, which is as long as the list passed
-    pub gives_lent : (d : Datum) (R : RattleType) (ys zs : List R.Denot) (k : ℕ) (Φ : d.row.Denot → List R.Denot → Type 0) (r : d.row.Denot) → ((r' : d.row.Denot) (l : List R.Denot) → Φ r' l → (r' ≡ r) × (l ≡ zs))
-        → (ν : ℕ) (δ : GName) (w : Val) → ent 𝓤 (H.⇛ (ex 𝓤 (λ (r' : d.row.Denot). sep 𝓤 (sep 𝓤 (Token (ν ∷ []) full_share) (sem 𝓛 (d.row.own_val r' (w ∷ [])))) (ex 𝓤 (λ (ws : List R.Denot × Units k). sep 𝓤 (sem 𝓛 (last R ys k δ ws.0)) (fact 𝓤 (Φ r' ws.0)))))))
+    -- and of a slice before them: it says the last list, zs, which is as long as the list passed. The borrow that it hands back too is over with ν
+    pub gives_lent : (d : Datum) (R : RattleType) {b o : ℕ} (ys zs : List R.Denot) (k : ℕ) (Φ : d.row.Denot → List R.Denot → Type 0) (r : d.row.Denot) → ((r' : d.row.Denot) (l : List R.Denot) → Φ r' l → (r' ≡ r) × (l ≡ zs))
+        → (ν : ℕ) (δ : GName) (w : Val) → ent 𝓤 (H.⇛ (ex 𝓤 (λ (r' : d.row.Denot). sep 𝓤 (sep 𝓤 (Token (ν ∷ []) full_share) (sem 𝓛 (d.row.own_val r' (w ∷ [])))) (ex 𝓤 (λ (ws : List R.Denot × Units k). sep 𝓤 (sem 𝓛 (last R (ν ∷ []) b o ys k δ ws.0)) (fact 𝓤 (Φ r' ws.0)))))))
         (H.⇛ (Given_back d r (length zs ≡ length ys) (Token (ν ∷ []) full_share) (finally R δ zs) w))
-    gives_lent d R ys zs k Φ r says ν δ w =
-        qed 𝓛 (later (some (λ (r' : d.row.Denot). (raw (Token (ν ∷ []) full_share) ⊛ ‵ (d.row.own_val r' (w ∷ []))) ⊛ some (λ (ws : List R.Denot × Units k). ‵ (last R ys k δ ws.0) ⊛ raw (fact 𝓤 (Φ r' ws.0))))) ∷ []) ∵
-        updating ! $ await ! tt $ pick ! (λ r'. split ! $ move ! (1 ∷ []) $ pick ! (λ ws. split ! $ move ! (1 ∷ []) $ heard ! (Φ r' ws.0) (λ φ. fsplit ! $ fsplit ! $ rewrite ! 0 (λ (l : List R.Denot). ‵ (finally R δ l)) (says r' ws.0 φ).1 refl $ move ! (1 ∷ []) $ feq_l ! (λ len.
-        -- [the last list; true; the token and the result]
-        move ! (2 ∷ []) $ split ! $ move ! (1 ∷ []) $ peeks ! d.row (Is d.row) (shows 𝓛 d.row) r' (w ∷ []) (λ is. at_once ! $ check ! (has d r' r w (says r' ws.0 φ).0 is, sym (ap length (says r' ws.0 φ).1) ∙ len) $ keep ! (1 ∷ 2 ∷ []) $ done !)))))
+    gives_lent d R {b} {o} ys zs k Φ r says ν δ w =
+        qed 𝓛 (later (some (λ (r' : d.row.Denot). (raw (Token (ν ∷ []) full_share) ⊛ ‵ (d.row.own_val r' (w ∷ []))) ⊛ some (λ (ws : List R.Denot × Units k). ‵ (last R (ν ∷ []) b o ys k δ ws.0) ⊛ raw (fact 𝓤 (Φ r' ws.0))))) ∷ []) ∵
+        updating ! $ await ! tt $ pick ! (λ r'. split ! $ move ! (1 ∷ []) $ pick ! (λ ws. split ! $ move ! (1 ∷ []) $ heard ! (Φ r' ws.0) (λ φ. fsplit ! $ fsplit ! $ fsplit ! $ rewrite ! 0 (λ (l : List R.Denot). ‵ (finally R δ l)) (says r' ws.0 φ).1 refl $ move ! (1 ∷ []) $ feq_l ! (λ len.
+        -- [the last list; the borrow; true; the token and the result]
+        move ! (3 ∷ []) $ split ! $ move ! (1 ∷ []) $ peeks ! d.row (Is d.row) (shows 𝓛 d.row) r' (w ∷ []) (λ is. at_once ! $ check ! (has d r' r w (says r' ws.0 φ).0 is, sym (ap length (says r' ws.0 φ).1) ∙ len) $ keep ! (1 ∷ 2 ∷ []) $ done !)))))
 
 -- what plain data own is had for nothing
 pub data_owned : {M : Type 1} {𝓤 : Ura M} {𝓛 : Logic 𝓤} {K : Type 0} {Γ : List (Item 𝓤)} {G : Goal 𝓤 𝓛.H} → K → (ds : List Datum) (a : Denots (rows ds)) → Fit ds a → Step K 𝓛 (‵ (owns (rows ds) a (vals ds a)) ∷ Γ) G Γ G
