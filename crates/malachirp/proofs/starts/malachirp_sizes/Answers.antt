@@ -10,5 +10,5 @@ pub overflow_mul-needed : goal.overflow_mul-needed
 overflow_mul-needed c =
     let g = c in
     let h = g.head_from-h.result in
-    let good = sym g.check-c.ensures ∙ g.enum_told-1.given.1 in
+    let good = sym g.check-c.ensures ∙ g.in-Good.is in
     omega (arith, needed_is h c.depth.ensures c.width.ensures, slots_high h (checked_tells h _ good))
