@@ -3,6 +3,8 @@
 #![tactic(auto)]
 
 mod moving;
+#[cfg(test)]
+mod tests;
 
 use runs::runs::Answer;
 use std::io;

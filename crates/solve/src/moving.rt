@@ -12,7 +12,7 @@ fn broken_off(why: &Error) -> bool {
     why.kind() == ErrorKind::Interrupted
 }
 
-// How many bytes were read, and whether that is all up to the input's end or the file's room.
+// How many bytes were read, and whether that is all up to the input's end or the file's room, or why it is not.
 #[derive(Clone, Copy)]
 pub struct Input {
     pub count: usize,
