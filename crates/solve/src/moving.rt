@@ -1,4 +1,5 @@
-// Reads standard input and writes standard output, and tells why not all of it went. A call that a signal broke off is made again; any other that fails ends it.
+// Reads standard input and writes standard output, and tells why not all of it went.
+// A call that a signal broke off is made again; any other that fails ends it.
 ghost use Rattle.std.specs.Prelude.{◌≤◌, length};
 
 use std::io;
