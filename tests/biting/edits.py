@@ -7,6 +7,7 @@ words of the place at which the prover must refuse. Empty lines and lines that b
 
 import glob
 import os
+import re
 
 PARTS = ("src", "specs", "proofs")
 
@@ -52,22 +53,38 @@ class Edit:
         return texts
 
     def placed(self, crate):
-        """Bad unless the line at: has a place, which is a file of the crate's proofs or a function, and a name in it."""
+        """Bad unless the line at: has a place: a function of the crate, or a file of its proofs; and a goal or a law in it."""
         if not self.at:
             raise Bad("it has no line at:, which says where it must be refused")
         if len(self.at) < 2:
-            raise Bad("its line at: has one word; it takes two, a proof's file or a function, and the law or need in it")
+            raise Bad("its line at: has one word; it takes two, a function or a law's file, and the goal or the law in it")
         if self.at[0].startswith("proofs/") and not os.path.isfile(os.path.join(crate, self.at[0])):
             raise Bad("its line at: names %s, which is not there" % self.at[0])
+        if not self.at[0].startswith("proofs/") and not has_function(crate, self.at[0]):
+            raise Bad("its line at: names %s, which is no function of the crate" % self.at[0])
 
     def learn(self, places):
-        """Adds the line at:, if there is none: the first two words of the first place."""
-        if places and not self.at:
-            self.at = places[0].words[:2]
-            with open(self.path, encoding="utf-8") as opened:
-                lines = opened.read().rstrip("\n").split("\n")
-            with open(self.path, "w", encoding="utf-8") as opened:
-                opened.write("\n".join(lines + ["at: " + " ".join(self.at), ""]))
+        """Writes the line at:, where it is missing or is none of these places: the first two words of the best of them. Answers what to say of it."""
+        if not places or self.at and any(place.named(self.at) for place in places):
+            return ""
+        old, self.at = " ".join(self.at), max(places, key=self.worth).words[:2]
+        with open(self.path, encoding="utf-8") as opened:
+            lines = [line for line in opened.read().rstrip("\n").split("\n") if not line.startswith("at:")]
+        with open(self.path, "w", encoding="utf-8") as opened:
+            opened.write("\n".join(lines + ["at: " + " ".join(self.at), ""]))
+        return " (learned%s)" % (old and ", and not " + old)
+
+    def worth(self, place):
+        """What makes one place better than another: to be in the file or the function that the line at: names, and to be of a contract, not of safety."""
+        return bool(self.at) and self.at[0] in place.words, place.words[1].startswith("returns")
+
+
+def has_function(crate, name):
+    """Whether some file of src/ declares a function of this path's last name, in this crate."""
+    path = name.split("::")
+    files = glob.glob(os.path.join(crate, "src", "**", "*.rt"), recursive=True)
+    declares = re.compile(r"\bfn %s\b" % re.escape(path[-1]))
+    return path[0] == os.path.basename(crate) and len(path) > 1 and any(declares.search(text_of(crate, os.path.relpath(file, crate))) for file in files)
 
 
 def inside(file):

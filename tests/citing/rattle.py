@@ -2,7 +2,7 @@
 import re
 
 NOTES = re.compile(r"""b?"(?:\\.|[^"\\\n])*"|b?'(?:\\.|[^'\\\n])'|//[^\n]*|/\*.*?\*/""", re.S)
-ITEM = re.compile(r"""\s*(?:pub |ghost |extern "" )*(?P<kind>fn|struct|enum|const|impl|mod) (?P<name>\w+)""")
+ITEM = re.compile(r"""\s*(?:pub |ghost |extern "" )*(?P<kind>fn|struct|enum|const|impl|mod) (?:\w+ for )?(?P<name>\w+)""")
 MEMBER = re.compile(r"\s*(?:pub )?(?P<name>\w+)\s*(?:[:,({]|$)")
 
 
