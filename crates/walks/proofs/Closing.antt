@@ -8,7 +8,7 @@ use mir.Val.{Val}
 use base.Logic.{SProp, ent, sep}
 use prog.Wp.{Calls, WpFn, Closed, Tables}
 use prog.Model.{Model}
-use prog.Routine.{Name, Env}
+use prog.Routine.{Callee, Env}
 use sound.WpLaws.{WpFn-mono}
 use types.Logic.{Logic}
 use contract.Lifetimes.{Lfts, Shares, AllOutlive}
@@ -42,7 +42,7 @@ module _ {M : Type 1} {𝓤 : Ura M} (𝓛 : Logic 𝓤) (𝓜 : Model 𝓤 𝓛
       → Are (Types κs) (Ises (Types κs)) a (valss (Types κs) (sp κs) a) → (Q : Val → SProp 𝓤) → Finish ((κs, qs, bounds, a, valss (Types κs) (sp κs) a), g) Q
       → ent 𝓤 (sep 𝓤 (on_entry 𝓛 T.signature κs qs a (valss (Types κs) (sp κs) a)) ((c κs a).requires g)) (WpFn 𝓤 H 𝓣.C 𝓣.Λ f (flat (Types κs) (valss (Types κs) (sp κs) a)) Q)
 
-  pub closes : (name : Name) (f : Fn) → Closed 𝓤 H (tables 𝓤 H 𝓜 𝓡 env).C (tables 𝓤 H 𝓜 𝓡 env).Λ name f → (AllGo 𝓛 T.signature.lifetimes T.signature.params T.kept hs)
+  pub closes : (name : Callee) (f : Fn) → Closed 𝓤 H (tables 𝓤 H 𝓜 𝓡 env).C (tables 𝓤 H 𝓜 𝓡 env).Λ name f → (AllGo 𝓛 T.signature.lifetimes T.signature.params T.kept hs)
       → (sp : Spelled) → ((κs : Lfts T.signature.lifetimes) → Tellss (Types κs) (Ises (Types κs)) (sp κs)) → (Knows : Calls 𝓤 H → Type 1) → Knows (tables 𝓤 H 𝓜 𝓡 env).C → Walk f Knows sp
       → Triple 𝓤 ((tables 𝓤 H 𝓜 𝓡 env).C name) (triple_of 𝓛 T.signature (closing 𝓛 T c))
   unfolding tables_of

@@ -1,7 +1,7 @@
 -- How a walk begins and ends, where the function has one lifetime: its first parameter is a slice or a reader, and the others are plain data.
 --     enters       from what the function is passed: what the first parameter owns, and the token. What the data own is had for nothing, and let go
 --     ends         to what it hands back: the result, the first parameter and the data
---     ends-datum   the same, where the result is plain data
+--     ends_datum   the same, where the result is plain data
 --     made         what a datum owns
 -- Assumes `Logic`.
 use mathlib.Core.List.{List, [], ◌∷◌}

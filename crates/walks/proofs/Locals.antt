@@ -4,7 +4,7 @@
 --     local, field         an operand: a local; a field of a local that is a struct
 --     target               a right side: where a local that is a slice points to
 --     sets                 a local that was empty takes the value of a right side
---     receives, replaces   the result of a call goes to a local that was empty; to one that was not.        receives-last    where the call ends its part
+--     receives, replaces   the result of a call goes to a local that was empty; to one that was not.        receives_last    where the call ends its part
 --     clears               a local is empty again
 --     tests                a branch, each of whose arms goes on with what follows the branch
 --     leaves               the code returns its local 0, and every local is freed: `full` where it holds a value, `room` where it is empty
@@ -15,9 +15,9 @@ use mathlib.Core.Bool.{Bool, true, false, not}
 use Prim.Native.Nat.{ℕ, zero, suc, ◌+◌, ◌*◌}
 use mathlib.Core.List.{List, [], ◌∷◌}
 use seplogic.Ra.Ura.{Ura}
-use seplogic.Ra.TreeShare.{full_share}
+use base.Fraction.{full_share}
 use lib.Dec.{T as Holds}
-use mir.Syntax.{Sym, Ty, Tys, Local, Fn, Opd as Operand, Body, Rv as Right, copy, place, field as step_in, deref, addr_of, skip, seq, assign, block, loop, cond, switch, exit, return, call, ty_struct, local as of-type}
+use mir.Syntax.{Sym, Ty, Tys, Local, Fn, Opd as Operand, Body, Rv as Right, copy, place, field as step_in, deref, addr_of, skip, seq, assign, block, loop, cond, switch, exit, return, unreachable, call, call_v, lend_static, ty_struct, local as of-type}
 use mir.Val.{Val, Vals, vbool, vptr, vstruct, has_ty, WT}
 use mir.Fields.{get_v, set_v}
 use base.Logic.{SProp, ent, id⊢, via, mono_r}
@@ -99,7 +99,7 @@ module _ {M : Type 1} {𝓤 : Ura M} {𝓛 : Logic 𝓤} {K : Type 0} where
 
   allots : K → {Γ : List (Item 𝓤)} (ls : List Local) {G : Env 𝓤 H → Goal 𝓤 H} → Each ls (λ E. Seq K 𝓛 (rooms E Γ) (G E)) → Seq K 𝓛 Γ (allocs ls G)
   allots t [] s = alloc0 t $ s
-  allots t {Γ} (of-type τ h ∷ ls) {G} s = alloc1 t (λ b. allots t ls (each_map ls (λ E p. by t (via 𝓤 _ (rise 𝓛 E (‵ (froom τ b 0)) (‵ (fdies τ b)) Γ) p.prf)) (s b)))
+  allots t {Γ} (of-type τ h ∷ ls) {G} s = alloc1 t (λ b. allots t {Γ = ‵ (froom τ b 0) ∷ ‵ (fdies τ b) ∷ Γ} ls (each_map ls (λ E p. by t (via 𝓤 _ (rise 𝓛 E (‵ (froom τ b 0)) (‵ (fdies τ b)) Γ) p.prf)) (s b)))
 
   pub begins : K → {Γ : List (Item 𝓤)} (C : Calls 𝓤 H) (Λ : Loops 𝓤 H) (f : Fn) (vs : List Val) (Q : Val → SProp 𝓤)
       → Each f.locals (λ E. Seq K 𝓛 (rooms E Γ) (params' E vs (runs C Λ E f.body (at_ret E Q)))) → Seq K 𝓛 Γ (prop (WpFn 𝓤 H C Λ f vs Q))
@@ -127,6 +127,9 @@ skip then r = r
 (exit n) then r = exit n
 return then r = return
 (call f os p) then r = seq (call f os p) r
+unreachable then r = unreachable
+(call_v o s os p) then r = seq (call_v o s os p) r
+(lend_static p τ c) then r = seq (lend_static p τ c) r
 
 module _ {M : Type 1} {𝓤 : Ura M} (𝓛 : Logic 𝓤) (𝓣 : Tables 𝓤 𝓛.H) (E : Env 𝓤 𝓛.H) (r : Body) (Q : Out → SProp 𝓤) where
   open 𝓛 use {H}
@@ -148,6 +151,9 @@ module _ {M : Type 1} {𝓤 : Ura M} (𝓛 : Logic 𝓤) (𝓣 : Tables 𝓤 �
   onward (exit n) = id⊢ 𝓤 _
   onward return = id⊢ 𝓤 _
   onward (call f os p) = id⊢ 𝓤 _
+  onward unreachable = id⊢ 𝓤 _
+  onward (call_v o s os p) = id⊢ 𝓤 _
+  onward (lend_static p τ c) = id⊢ 𝓤 _
 
 module _ {M : Type 1} {𝓤 : Ura M} {𝓛 : Logic 𝓤} {K : Type 0} {Γ : List (Item 𝓤)} where
   open 𝓛 use {H}

@@ -8,8 +8,8 @@ use Rattle.lines.proofs.Turns.{Turning, start, end}
 use Rattle.lines.proofs.Passes.{raised_none, raise_row, raise_turn}
 use Rattle.lines.proofs.raise.Given as goal
 
-abbrev invariant-loop : goal.invariant-loop
-invariant-loop s₀ up inner n w i₀ s i = (1 ≤ i) × (i ≤ n + 1) × Turning raised (λ k. k < i) w up inner n s₀ s
+abbrev pub invariant-loop-i : goal.invariant-loop-i
+invariant-loop-i l = (1 ≤ l.i) × (l.i ≤ l.n + 1) × Turning raised (λ k. k < l.i) l.w l.up l.inner l.n l.initial.s l.s
 
-abbrev decreases-loop : goal.decreases-loop
-decreases-loop s₀ up inner n w i₀ s i = n + 1 - i
+abbrev pub decreases-loop-i : goal.decreases-loop-i
+decreases-loop-i l = l.n + 1 - l.i

@@ -7,8 +7,8 @@ use Rattle.lines.proofs.Turns.{Turning, start, end}
 use Rattle.lines.proofs.Passes.{step_room, step_rows, step_turn, step_end}
 use Rattle.lines.proofs.step.Given as goal
 
-abbrev invariant-loop : goal.invariant-loop
-invariant-loop s₀ first inner k n j₀ s j = (k ≤ j) × (j ≤ n) × Turning (stepped k) (λ i. j < i) 1 first inner n s₀ s
+abbrev pub invariant-loop-j : goal.invariant-loop-j
+invariant-loop-j l = (l.k ≤ l.j) × (l.j ≤ l.n) × Turning (stepped l.k) (λ i. l.j < i) 1 l.first l.inner l.n l.initial.s l.s
 
-abbrev decreases-loop : goal.decreases-loop
-decreases-loop s₀ first inner k n j₀ s j = j
+abbrev pub decreases-loop-j : goal.decreases-loop-j
+decreases-loop-j l = l.j

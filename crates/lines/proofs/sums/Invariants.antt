@@ -6,8 +6,8 @@ use Rattle.lines.proofs.Turns.{start, end}
 use Rattle.lines.proofs.Passes.{Summing, summed_last, sum_room, sum_rows, sum_turn}
 use Rattle.lines.proofs.sums.Given as goal
 
-abbrev invariant-loop : goal.invariant-loop
-invariant-loop s₀ up inner j w p₀ i₀ s p i = Summing w up inner j s₀ p i s
+abbrev pub invariant-loop-i : goal.invariant-loop-i
+invariant-loop-i l = Summing l.w l.up l.inner l.j l.initial.s l.p l.i l.s
 
-abbrev decreases-loop : goal.decreases-loop
-decreases-loop s₀ up inner j w p₀ i₀ s p i = i
+abbrev pub decreases-loop-i : goal.decreases-loop-i
+decreases-loop-i l = l.i

@@ -8,8 +8,8 @@ use Rattle.lines.specs.Sides.{Each, sign}
 use Rattle.lines.proofs.Parts.{none, joined, last, broken, passed, failed}
 use Rattle.lines.proofs.sides.all_have.Given as goal
 
-abbrev invariant-loop : goal.invariant-loop
-invariant-loop s start stop above i₀ i = (start ≤ i) × (i ≤ stop) × Each (Has (sign above)) s start i
+abbrev pub invariant-loop-i : goal.invariant-loop-i
+invariant-loop-i l = (l.start ≤ l.i) × (l.i ≤ l.stop) × Each (Has (sign l.above)) l.s l.start l.i
 
-abbrev decreases-loop : goal.decreases-loop
-decreases-loop s start stop above i₀ i = stop - i
+abbrev pub decreases-loop-i : goal.decreases-loop-i
+decreases-loop-i l = l.stop - l.i

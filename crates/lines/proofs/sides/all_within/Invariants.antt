@@ -11,8 +11,8 @@ use Rattle.lines.specs.Sides.{Each, AtMost}
 use Rattle.lines.proofs.Parts.{none, joined, last, broken, passed, failed}
 use Rattle.lines.proofs.sides.all_within.Given as goal
 
-abbrev invariant-loop : goal.invariant-loop
-invariant-loop s start stop bound i₀ i = (start ≤ i) × (i ≤ stop) × Each (AtMost (nat_abs (to_z w64 bound))) s start i
+abbrev pub invariant-loop-i : goal.invariant-loop-i
+invariant-loop-i l = (l.start ≤ l.i) × (l.i ≤ l.stop) × Each (AtMost (nat_abs l.bound)) l.s l.start l.i
 
-abbrev decreases-loop : goal.decreases-loop
-decreases-loop s start stop bound i₀ i = stop - i
+abbrev pub decreases-loop-i : goal.decreases-loop-i
+decreases-loop-i l = l.stop - l.i
