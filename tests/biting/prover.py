@@ -111,8 +111,8 @@ class Prover:
 
 
 class Place:
-    """A fact that the prover did not admit. Its words are what names it: a function and a goal of its proof, or a law's file and the law. Of a function that has
-    a file of answers both are known, and the file may be named in the function's place. And what was said."""
+    """A fact that the prover did not admit. Its words are what names it: a function and a goal of its proof, or a law's file and the law; a function's file of
+    answers, where that was named, may stand in the function's place. And what was said."""
 
     def __init__(self, words, text):
         self.words, self.text = words, text[:SHOWN]

@@ -40,7 +40,7 @@ ANSWERS = {
     "text": (TYPE + RETURNS + NOT_PROVED, 1),
     "unsure": ("rattle: no verdict: out of memory\n", 3),
 }
-# `rt all check` keeps of each crate that its answer says is proved; `rt check` wants that of the crate and of those below, and answers for the word in its source
+# `rt all check` keeps something of each crate; `rt check` wants that of the crate and of the library below, and answers by the word in the source
 RT = """#!/bin/sh
 case $1 in
 all)
@@ -142,7 +142,8 @@ class Fitting(Folder):
 
     def test_a_place_has_two_words_and_its_file_or_function_is_there(self):
         for place, words in (("returns", "has one word"), ("proofs/Laws.antt law", "names proofs/Laws.antt, which is not there"),
-                             ("low::g returns", "names low::g, which is no function of the crate"), ("high::f returns", "names high::f"), ("f returns", "names f,")):
+                             ("low::g returns", "names low::g, which is no function of the crate"),
+                             ("high::f returns", "names high::f"), ("f returns", "names f,")):
             self.edit("file: src/lib.rt\nold: a\nnew: b\nat: %s\n" % place)
             self.assertIn(words, faults(self.source("a fn f()"))[1][0])
         self.source("law", file="proofs/Laws.antt")
