@@ -6,7 +6,7 @@ use native.Mathlib.Omega.{arith}
 use native.Mathlib.Nat.{mul-le-mul}
 use Rattle.bernstein.specs.Three.{Direction, ◌!◌}
 use Rattle.bernstein.specs.Numbers.{Degrees, Index}
-use Rattle.bernstein.specs.Places.{place, size, index}
+use Rattle.bernstein.specs.Places.{place, index}
 use Rattle.bernstein.proofs.Indices.{place_index, index_place, index_upto}
 use Rattle.bernstein.proofs.Places.{place_below}
 use Rattle.system.specs.Heads.{degrees}

@@ -9,4 +9,3 @@ pub mod Walking
 pub mod Filling
 pub mod Answering
 pub mod Lengths
-mod Readers

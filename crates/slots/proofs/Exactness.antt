@@ -17,14 +17,14 @@ module _ (h : Head) (L : Lawful (frame h)) where
   unfolding unit_slot
   unit_exact cs =
       let p : ℕ → Patch = λ t. (frame h).start (polynomial h cs t) in
-      record { exact_slot = λ t l. L.Exact-same unit (polynomial h cs t) (p t) _ (L.start_exact (polynomial h cs t)) (in_turn_filled h L p t l) }
+      record { exact_slot = λ t l. L.exact_same unit (polynomial h cs t) (p t) _ (L.start_exact (polynomial h cs t)) (in_turn_filled h L p t l) }
 
   pub half_exact : (a : ℕ → Patch) (l : List ℤ) → ExactSlot h a l → (e : Half) (r : Direction) → ExactSlot h a (half_slot h e r l)
   unfolding half_slot
   half_exact a l x e r =
       let p : ℕ → Patch = λ t. (frame h).half e r (polynomial h (numbers l) t) in
       record {
-        exact_slot = λ t m. L.Exact-same (half_box e r (box_in l)) (a t) (p t) _ (L.cut_exact (box_in l) (a t) _ (x.exact_slot t m) e r)
+        exact_slot = λ t m. L.exact_same (half_box e r (box_in l)) (a t) (p t) _ (L.cut_exact (box_in l) (a t) _ (x.exact_slot t m) e r)
             (in_turn_filled h L p t m);
       }
 
