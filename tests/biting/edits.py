@@ -60,6 +60,8 @@ class Edit:
             raise Bad("its line at: has one word; it takes two, a function or a law's file, and the goal or the law in it")
         if self.at[0].startswith("proofs/") and not os.path.isfile(os.path.join(crate, self.at[0])):
             raise Bad("its line at: names %s, which is not there" % self.at[0])
+        if self.at[0].startswith("proofs/") and not re.search(r"(?m)^ *(?:pub )?%s(?= )" % re.escape(self.at[1]), text_of(crate, self.at[0])):
+            raise Bad("its line at: names %s, which %s does not declare" % (self.at[1], self.at[0]))
         if not self.at[0].startswith("proofs/") and not has_function(crate, self.at[0]):
             raise Bad("its line at: names %s, which is no function of the crate" % self.at[0])
 

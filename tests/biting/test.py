@@ -146,7 +146,9 @@ class Fitting(Folder):
                              ("high::f returns", "names high::f"), ("f returns", "names f,")):
             self.edit("file: src/lib.rt\nold: a\nnew: b\nat: %s\n" % place)
             self.assertIn(words, faults(self.source("a fn f()"))[1][0])
-        self.source("law", file="proofs/Laws.antt")
+        self.source("-- a law\npub law : Nat\nother n = law\n", file="proofs/Laws.antt")
+        self.edit("file: src/lib.rt\nold: a\nnew: b\nat: proofs/Laws.antt n\n")
+        self.assertEqual(faults(self.source("a"))[1], ["low!one: its line at: names n, which proofs/Laws.antt does not declare"])
         for place in ("low::f returns", "low::inner::f returns", "proofs/Laws.antt law"):
             self.edit("file: src/lib.rt\nold: a\nnew: b\nat: %s\n" % place)
             self.assertEqual(faults(self.source("a fn f()"))[1], [])
