@@ -126,6 +126,22 @@ class Fitting(Folder):
         self.assertEqual(self.faults("old: e\nnew: d\n")[1], ["low!one: it no longer fits: 'e' stands 0 times in src/lib.rt"])
         self.assertEqual(self.faults("old: b\nnew: d\n")[1], ["low!one: it no longer fits: 'b' stands 2 times in src/lib.rt"])
 
+    def test_a_name_that_the_prover_makes_is_carried_over_to_the_proofs(self):
+        text = "file: src/lib.rt\nold: a\nnew: d\nas: i-ge1 i-ge2\n"
+        edit, crate = Edit(self.edit(text)), self.source("a b b c fn f\n")
+        with self.assertRaises(Bad) as caught:
+            edit.fits(crate)
+        self.assertIn("no file of proofs/ names i-ge1", str(caught.exception))
+        self.source("use goal.{returns-then-i-ge1, i-ge10}\nc.if-i-ge1.true\n", file="proofs/f/Answers.antt")
+        self.source("i-ge10\n", file="proofs/Laws.antt")
+        self.assertEqual(edit.fits(crate), {"src/lib.rt": "d b b c fn f\n", "proofs/f/Answers.antt": "use goal.{returns-then-i-ge2, i-ge10}\nc.if-i-ge2.true\n"})
+
+    def test_only_names_that_the_prover_makes_are_carried_over(self):
+        for line in ("refl sym", "i-ge1", "i-ge1 i-ge2 i-ge3", "i-ge1 refl", "(i-ge1) (i-ge2)"):
+            with self.assertRaises(Bad) as caught:
+                Edit(self.edit("file: src/lib.rt\nold: a\nnew: d\nas: %s\n" % line))
+            self.assertIn("has not two names of the prover's", str(caught.exception))
+
     def test_a_file_that_is_gone(self):
         self.edit("file: src/gone.rt\nold: a\nnew: b\n", folder="must-fail")
         self.assertEqual(faults(self.source("a")), (1, ["low!one: it no longer fits: there is no file src/gone.rt"]))
