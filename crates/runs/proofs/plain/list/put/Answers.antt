@@ -1,0 +1,17 @@
+-- `put` meets its contract. Assumes nothing.
+use borrow.Author.Rules.{rules}
+use native.Mathlib.Numerals.{unary_clauses}
+use native.Mathlib.Omega.{arith}
+use lib.ListN.{length-set}
+use Rattle.runs.proofs.Lists.{written, unwritten}
+use Rattle.runs.proofs.plain.list.put.Goals as goal
+
+pub returns-then-to-list : goal.returns-then-to-list
+returns-then-to-list c =
+    let s = c in
+    simp unary_clauses (written s.args.list.now s.args.to s.args.kept (omega arith))
+
+pub returns-else-to-list : goal.returns-else-to-list
+returns-else-to-list c =
+    let s = c in
+    unwritten s.args.list.now s.args.to s.args.kept (omega arith)

@@ -1,0 +1,16 @@
+-- `fill` meets its contract. Assumes nothing.
+use Prim.Native.Nat.{◌*◌}
+use mathlib.Core.Path.{◌≡◌, refl}
+use native.Mathlib.Omega.{arith}
+use borrow.Author.Rules.{rules}
+use Rattle.system.specs.Heads.{depth, width}
+use Rattle.waiting.proofs.Starting.{filled_inside, filled}
+use Rattle.waiting.proofs.start.fill.Goals as goal
+
+pub returns : goal.returns
+returns c =
+    let s = c in
+    let w = c.width-w in
+    let d = c.depth in
+    filled s.args.h s.args.coefficients.now s.args.store.now w.ensures d.ensures s.requires.3 c.start.new.slot
+    c.start.ensures c.clear.new.slot c.clear.ensures
