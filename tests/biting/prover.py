@@ -67,7 +67,7 @@ def copy(here, there, names, way):
 
 
 class Prover:
-    """Of some crates a copy, the base, in which all are proved; and a room for each edit, which begins with what was proved there."""
+    """Of some crates a copy, the base, in which all are proved; and rooms for the edits, each of which begins with what was proved there."""
 
     def __init__(self, root, folder):
         self.root, self.folder, self.base = root, folder, os.path.join(folder, "base")
@@ -94,20 +94,26 @@ class Prover:
         summary = dict(re.findall(r"(?m)^(\w+): (ok|failed \(-?\d+\)|not run, .*)$", said.rpartition("== summary")[2]))
         return said, {name: summary.get(name, "no word of it") for name in names if summary.get(name) != "ok"}
 
-    def ask(self, crate, texts, room):
-        """The prover's status and what it said of the crate with these texts in place of its own, in a room that is not there yet."""
-        every = below(self.crates, [crate])
+    def ask(self, crate, texts, name):
+        """The prover's status and what it said of the crate with these texts in place of its own. They are put into a room of that name, which is left empty;
+        rt notes where it kept something, so there are as few rooms as are used at a time."""
+        room, every = os.path.join(self.folder, name), below(self.crates, [crate])
+        shutil.rmtree(room, ignore_errors=True)
         begin(room, self.crates, every)
         copy(self.base, room, every, linked)
         for name in every:
-            own, way = ("out/incremental", kept) if name == crate else ("out/rlib", linked)
-            shutil.copytree(os.path.join(self.base, "crates", name, own), os.path.join(room, "crates", name, own), copy_function=way)
+            part, way = ("out/incremental", kept) if name == crate else ("out/rlib", linked)
+            if os.path.isdir(os.path.join(self.base, "crates", name, part)):
+                shutil.copytree(os.path.join(self.base, "crates", name, part), os.path.join(room, "crates", name, part), copy_function=way)
         for file, text in texts.items():
             path = os.path.join(room, "crates", crate, file)
             os.remove(path)
             with open(path, "w", encoding="utf-8") as opened:
                 opened.write(text)
-        return self.run(["check", "--jobs", "1"], os.path.join(room, "crates", crate))
+        try:
+            return self.run(["check", "--jobs", "1"], os.path.join(room, "crates", crate))
+        finally:
+            shutil.rmtree(room, ignore_errors=True)
 
 
 class Place:
