@@ -92,8 +92,9 @@ class Edit:
         return " (learned%s)" % (old and ", and not " + old)
 
     def worth(self, place):
-        """What makes one place better than another: to be in the file or the function that the line at: names, and to be of a contract, not of safety."""
-        return bool(self.at) and self.at[0] in place.words, place.words[1].startswith("returns")
+        """What makes one place better than another: to be in the file or the function that the line at: names; then to be of what a contract ensures, or else of
+        an invariant, and not of safety or of what a call requires."""
+        return bool(self.at) and self.at[0] in place.words, 2 * place.words[1].startswith("returns") + place.words[1].startswith("loop-")
 
 
 def has_function(crate, name):

@@ -17,6 +17,8 @@ UNREAD = re.compile(r"is not in scope|has no field|is no name|operand is missing
 
 ERROR = re.compile(r"(?:\./)?(\S+?):\d+:\d+: error: (?:`([^`]+)`: )?(.*)")
 ALONE = re.compile(r"fn (\S+): no proof: .*`search` did not prove (.*)")
+LEFT = re.compile(r"note: src/\S+:\d+:\d+: it is not proved that .*\(`([^`]+)`\)(?:;|$)")  # a goal that no file answers
+NOT_PROVED = re.compile(r"fn (\S+): not proved")
 OF_A_FUNCTION = re.compile(r"proofs/(\S+)/(?:Answers|Invariants|Proof)\.antt$")
 
 
@@ -138,16 +140,26 @@ def places(crate, said):
     """The facts at which the prover refuses.
 
     An error in src/ or specs/ is none: there a text is not understood. An error that only says that something else was not admitted is none, and neither is a
-    proof that cites what the edited code no longer has: such an edit shows nothing of the fact that it is meant to break.
+    proof that cites what the edited code no longer has: such an edit shows nothing of the fact that it is meant to break. Goals that no file answers are told
+    before the line of their function; where that has a file, they count only if it cites nothing that is gone, else they may be the same goals by other names.
     """
-    found = []
+    found, shaped, left = [], set(), []
     for line in said.split("\n"):
-        error, alone = ERROR.match(line), ALONE.match(line)
-        if error and error[1].startswith("proofs/") and error[2] and not any(words in error[3] for words in FOLLOWS + SHAPE):
+        error, alone, goal, unproved = ERROR.match(line), ALONE.match(line), LEFT.match(line), NOT_PROVED.match(line)
+        if error and error[1].startswith("proofs/") and error[2]:
             function = function_of(crate, error[1])
-            found.append(Place([function, error[2], error[1]] if function else [error[1], error[2]], line))
+            if any(words in error[3] for words in SHAPE):
+                shaped.add(function)
+            elif not any(words in error[3] for words in FOLLOWS):
+                found.append(Place([function, error[2], error[1]] if function else [error[1], error[2]], line))
+        elif goal:
+            left.append(Place(["", goal[1]], line))
         elif alone:
-            found += [Place([alone[1], goal], line) for goal in re.findall(r"`([^`]+)`", alone[2])]
+            found += [Place([alone[1], name], line) for name in re.findall(r"`([^`]+)`", alone[2])]
+        elif unproved and unproved[1] not in shaped:
+            found += [Place([unproved[1], place.words[1]], place.text) for place in left]
+        if line.startswith("fn "):
+            left = []
     return found
 
 

@@ -176,6 +176,13 @@ class Places(unittest.TestCase):
         self.assertEqual([place.words for place in found], [["low::f", "returns", "proofs/f/Answers.antt"], ["low::g", "fits"], ["low::g", "returns-else"],
                                                             ["proofs/Laws.antt", "sum_fits"]])
 
+    def test_a_goal_that_no_file_answers_counts_unless_the_file_cites_what_is_gone(self):
+        left = NOTE + "fn low::f: not proved\n"
+        self.assertEqual([place.words for place in places("low", left)], [["low::f", "returns-else"]])
+        self.assertEqual([place.words[:2] for place in places("low", RETURNS + left)], [["low::f", "returns"], ["low::f", "returns-else"]])
+        self.assertEqual(places("low", MISSING + left), [])
+        self.assertEqual(places("low", NOTE + "fn low::h: proved\nfn low::f: not proved\n"), [])
+
     def test_words_are_whole_and_all_of_them_in_one_place(self):
         place, = places("low", RETURNS)
         self.assertTrue(place.named(["low::f", "returns"]))
