@@ -184,6 +184,7 @@ take_map f (suc k) (x ∷ l) = ap (λ (m : List _). f x ∷ m) (take_map f k l)
 pub in_record : (h : Head) (x : Point) (es : List (Entry Box)) → Any (λ e. LiesIn h x e.place) es → Any (λ k. LiesIn h x (as_box (box_of k))) (map forget es)
 in_record h x (e ∷ es) (inl i) = inl i
 in_record h x (e ∷ es) (inr a) = inr (in_record h x es a)
+in_record h x [] x'' = elim x'' [ ]
 
 pub reached_holds : ReachedHolds
 reached_holds h cs st s list store p x i z =

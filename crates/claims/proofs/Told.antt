@@ -88,6 +88,7 @@ reached_continued h cs st s list store p list' k =
 any_record : (P : Box → Type 0) (es : List (Entry Box)) → Any (λ e. P e.place) es → Any (λ k. P (as_box (box_of k))) (map forget es)
 any_record P (e ∷ es) (inl i) = inl i
 any_record P (e ∷ es) (inr a) = inr (any_record P es a)
+any_record P [] x' = elim x' [ ]
 
 all_record : (P : Box → Type 0) (es : List (Entry Box)) → All (λ e. P e.place) es → All (λ k. P (as_box (box_of k))) (map forget es)
 all_record P [] a = tt

@@ -1,0 +1,16 @@
+-- `put_rest` meets its contract: at each turn the numbers before i are put. Assumes nothing.
+use Prim.Native.Nat.{ℕ, ◌+◌, ◌≤◌, ◌<◌, ◌-◌}
+use mathlib.Core.Path.{◌≡◌, refl, sym, ◌∙◌}
+use mathlib.Core.List.{List, [], ◌∷◌, ◌++◌, map}
+use native.Mathlib.Omega.{arith}
+use lib.ListN.{length, get_or, set, drop, length-set}
+use Rattle.file.proofs.Putting.{Putting, putting_start, putting_same, putting_fits, putting_turn, putting_over}
+use Rattle.desk.proofs.Stepping.{byte_fits, byte_turn, next_number, no_number}
+use Rattle.desk.specs.Text.{decimal, ended}
+use Rattle.desk.proofs.text.put_rest.Given as goal
+
+abbrev pub invariant-loop-i : goal.invariant-loop-i
+invariant-loop-i l = Putting l.initial.t l.at (ended (map decimal l.ns)) l.o l.t (ended (map decimal (drop l.i l.ns))) × (l.i ≤ length l.ns)
+
+abbrev pub decreases-loop-i : goal.decreases-loop-i
+decreases-loop-i l = length l.ns - l.i
