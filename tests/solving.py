@@ -19,8 +19,9 @@ sys.dont_write_bytecode = True
 ROOT = os.path.dirname(os.path.dirname(os.path.abspath(__file__)))
 LATE = 0.5  # seconds after which a late writer writes
 
-# `rt run` takes its time, breaks if another one is at it, refuses a source that is wrong, and else links the source as a program and runs it
+# like rt, it starts on no folder; `rt run` takes its time, breaks if another one is at it, refuses a source that is wrong, and else links the source as a program and runs it
 RT = """#!/bin/sh
+[ ! -d /dev/stdin ] || { echo "rt: no start on such an input" >&2; exit 1; }
 case $1 in
 version) echo stand-in ;;
 doc) echo "$KIT/START-HERE.md" ;;
@@ -72,14 +73,14 @@ class Made:
     def source(self, line):
         written(os.path.join(self.root, "crates", "solve", "src", "main.rt"), line + "\n")
 
-    def start(self):
+    def start(self, given=subprocess.DEVNULL):
         setting = dict(os.environ, KIT=self.kit, PATH=os.path.join(self.kit, "bin") + ":" + os.environ["PATH"])
-        return subprocess.Popen([os.path.join(self.root, "solve")], env=setting, stdin=subprocess.DEVNULL,
+        return subprocess.Popen([os.path.join(self.root, "solve")], env=setting, stdin=given,
                                 stdout=subprocess.PIPE, stderr=subprocess.PIPE, text=True)
 
-    def solve(self):
+    def solve(self, **how):
         """Status, standard output and standard error of one call."""
-        run = self.start()
+        run = self.start(**how)
         out, said = run.communicate(timeout=60)
         return run.returncode, out, said
 
@@ -142,6 +143,14 @@ class WhatIsRun(unittest.TestCase):
             self.made.source("echo finished 3; " + line)
             found, out, said = self.made.solve()
             self.assertEqual((found, out, said.splitlines()[-1]), (5, "", words))
+
+    def test_the_input_is_the_programs_alone(self):
+        self.made.source("cat")
+        folder = os.open(self.where, os.O_RDONLY)
+        status, out, said = self.made.solve(given=folder)
+        os.close(folder)
+        self.assertEqual((status, out), (5, ""))
+        self.assertIn("Is a directory", said)
 
     def test_what_an_earlier_proof_linked_is_not_taken_for_a_new_one(self):
         self.made.solve()
