@@ -1,7 +1,7 @@
 /* Malachirp for C and C++: where one to three polynomials in one to three variables can all be zero in the unit box.
  *
- * Link with target/staticlib/libmalachirp.a, which `rt staticlib malachirp` writes (x86-64 Linux; it needs memset and nothing else). There is no heap and no
- * state of its own: a call works in what it is lent, so calls on different places may run at the same time. examples/c/boxes.c shows a whole run.
+ * Link with crates/malachirp/out/libmalachirp.a, which `rt lib` in crates/malachirp writes (x86-64 Linux; it needs memset and nothing else). There is no heap
+ * and no state of its own: a call works in what it is lent, so calls on different places may run at the same time. examples/c/boxes.c shows a whole run.
  *
  * Every call answers with a code: 0 for done, else the number of the refusal, and sets *offset: where a file is read, to the byte that a refusal speaks of;
  * in every other case to 0. Nothing else is changed by a refusal, whatever was lent. That, and what each call leaves in every place, is proved.

@@ -87,7 +87,7 @@ def runs_in(text):
 def citing_proofs():
     """The files of specs/ and src/ that cite proofs/."""
     for file in sorted([*ROOT.glob("crates/*/specs/**/*.antt"), *ROOT.glob("crates/*/src/**/*.rt")]):
-        if re.search(r"Rattle·[\w·]+\.proofs\b", file.read_text()):
+        if CRATES.intersection(re.findall(r"\bRattle\.(\w+)\.proofs\b", file.read_text())):
             yield f"{file.relative_to(ROOT)}: it cites proofs/"
 
 

@@ -19,20 +19,22 @@ sys.dont_write_bytecode = True
 ROOT = os.path.dirname(os.path.dirname(os.path.abspath(__file__)))
 LATE = 0.5  # seconds after which a late writer writes
 
-# `rt check solve` takes its time, breaks if another one is at it, refuses a source that is wrong, and else links the source as a program
+# like rt, it starts on no folder; `rt run` takes its time, breaks if another one is at it, refuses a source that is wrong, and else links the source as a program and runs it
 RT = """#!/bin/sh
+[ ! -d /dev/stdin ] || { echo "rt: no start on such an input" >&2; exit 1; }
 case $1 in
 version) echo stand-in ;;
-doc) echo "$KIT/docs/START-HERE.md" ;;
-check)
-    echo check >>"$KIT/checks"
+doc) echo "$KIT/START-HERE.md" ;;
+run)
+    echo run >>"$KIT/runs"
     mkdir "$KIT/busy" 2>/dev/null || { echo "two at once" >&2; touch "$KIT/broken"; exit 1; }
     sleep 0.5
     rmdir "$KIT/busy"
-    ! grep -q wrong crates/solve/src/main.rt || { echo "not proved: wrong" >&2; exit 1; }
-    mkdir -p target/bin
-    { echo '#!/bin/sh'; cat crates/solve/src/main.rt; } >target/bin/solve
-    chmod +x target/bin/solve ;;
+    ! grep -q wrong src/main.rt || { echo "not proved: wrong" >&2; exit 1; }
+    mkdir -p out
+    { echo '#!/bin/sh'; cat src/main.rt; } >out/solve
+    chmod +x out/solve
+    exec out/solve ;;
 esac
 """
 LOADER = """#!/bin/sh
@@ -59,8 +61,7 @@ class Made:
     def __init__(self, where):
         self.kit, self.root = os.path.join(where, "kit"), os.path.join(where, "root")
         written(os.path.join(self.kit, "bin", "rt"), RT)
-        machine = os.uname().machine
-        written(os.path.join(self.kit, "on", machine, "toolchain", "lib", "ld-linux-x86-64.so.2"), LOADER)
+        written(os.path.join(self.kit, "toolchain", "lib", "ld-linux-x86-64.so.2"), LOADER)
         written(os.path.join(self.root, "crates.txt"), "solve:\n")
         for part in ("specs", "proofs"):
             written(os.path.join(self.root, "crates", "solve", part, "Some.antt"), "")
@@ -72,19 +73,19 @@ class Made:
     def source(self, line):
         written(os.path.join(self.root, "crates", "solve", "src", "main.rt"), line + "\n")
 
-    def start(self):
+    def start(self, given=subprocess.DEVNULL):
         setting = dict(os.environ, KIT=self.kit, PATH=os.path.join(self.kit, "bin") + ":" + os.environ["PATH"])
-        return subprocess.Popen([os.path.join(self.root, "solve")], env=setting, stdin=subprocess.DEVNULL,
+        return subprocess.Popen([os.path.join(self.root, "solve")], env=setting, stdin=given,
                                 stdout=subprocess.PIPE, stderr=subprocess.PIPE, text=True)
 
-    def solve(self):
+    def solve(self, **how):
         """Status, standard output and standard error of one call."""
-        run = self.start()
+        run = self.start(**how)
         out, said = run.communicate(timeout=60)
         return run.returncode, out, said
 
-    def checks(self):
-        path = os.path.join(self.kit, "checks")
+    def proofs(self):
+        path = os.path.join(self.kit, "runs")
         return len(text_of(path).splitlines()) if os.path.exists(path) else 0
 
 
@@ -98,11 +99,11 @@ class WhatIsRun(unittest.TestCase):
         runs = [self.made.start() for _ in range(4)]
         ends = [(run.communicate(timeout=60)[0], run.returncode) for run in runs]
         self.assertEqual(ends, [("finished 1\n", 0)] * 4)
-        self.assertEqual((self.made.checks(), os.path.exists(os.path.join(self.made.kit, "broken"))), (1, False))
+        self.assertEqual((self.made.proofs(), os.path.exists(os.path.join(self.made.kit, "broken"))), (1, False))
 
     def test_one_that_is_ended_leaves_its_prover_alone_until_it_is_done(self):
         ended = self.made.start()
-        while not self.made.checks():
+        while not self.made.proofs():
             time.sleep(0.01)
         ended.kill()
         ended.wait(timeout=60)
@@ -110,14 +111,14 @@ class WhatIsRun(unittest.TestCase):
         self.assertFalse(os.path.exists(os.path.join(self.made.kit, "broken")))
         ended.communicate(timeout=60)
 
-    def test_nothing_is_checked_again_until_a_source_changes(self):
+    def test_nothing_is_proved_again_until_a_source_changes(self):
         for _ in range(3):
             self.assertEqual(self.made.solve()[:2], (0, "finished 1\n"))
-        self.assertEqual(self.made.checks(), 1)
+        self.assertEqual(self.made.proofs(), 1)
         self.made.source("echo spent 2")
-        self.assertEqual((self.made.solve()[:2], self.made.checks()), ((3, "spent 2\n"), 2))
+        self.assertEqual((self.made.solve()[:2], self.made.proofs()), ((3, "spent 2\n"), 2))
 
-    def test_a_failed_check_runs_nothing(self):
+    def test_what_is_not_proved_is_not_run(self):
         self.made.solve()
         self.made.source("wrong")
         for _ in range(2):
@@ -125,7 +126,7 @@ class WhatIsRun(unittest.TestCase):
             self.assertEqual((status, out), (2, ""))
             self.assertIn("not proved: wrong\nsolve: not proved, so not run\n", said)
         self.made.source("echo finished 1")
-        self.assertEqual((self.made.solve()[:2], self.made.checks()), ((0, "finished 1\n"), 3))
+        self.assertEqual((self.made.solve()[:2], self.made.proofs()), ((0, "finished 1\n"), 3))
 
     def test_the_status_is_the_answer(self):
         answers = {"finished 3": 0, "refused 1 at 0": 1, "spent 3": 3, "full 3": 4, "": 5, "finished": 5, "done": 5}
@@ -133,14 +134,34 @@ class WhatIsRun(unittest.TestCase):
             self.made.source("echo " + answer)
             self.assertEqual(self.made.solve()[0], status, answer)
 
-    def test_words_and_an_early_end_make_it_five(self):
-        unwritten = "solve: not all of the answer could be written: No space left on device"
-        cases = [("echo '%s' >&2" % unwritten, 5, unwritten), ("kill -9 $$", 5, "solve: the program was ended with status 137"),
-                 ("echo 'emulator: warning' >&2", 0, "emulator: warning")]
-        for line, status, words in cases:
+    def test_words_and_an_end_with_a_status_make_it_five(self):
+        unread = "Error: Os { code: 21, kind: IsADirectory, message: \"Is a directory\" }"
+        cases = [("echo '%s' >&2" % unread, unread), ("echo '%s' >&2; exit 1" % unread, "solve: the program ended with status 1"),
+                 ("exit 2", "solve: the program ended with status 2"), ("kill -9 $$", "solve: the program ended with status 137"),
+                 ("echo 'emulator: warning' >&2", "emulator: warning")]
+        for line, words in cases:
             self.made.source("echo finished 3; " + line)
-            found, _, said = self.made.solve()
-            self.assertEqual((found, said.splitlines()[-1]), (status, words))
+            found, out, said = self.made.solve()
+            self.assertEqual((found, out, said.splitlines()[-1]), (5, "", words))
+
+    def test_the_input_is_the_programs_alone(self):
+        self.made.source("cat")
+        folder = os.open(self.where, os.O_RDONLY)
+        status, out, said = self.made.solve(given=folder)
+        os.close(folder)
+        self.assertEqual((status, out), (5, ""))
+        self.assertIn("Is a directory", said)
+
+    def test_what_an_earlier_proof_linked_is_not_taken_for_a_new_one(self):
+        self.made.solve()
+        self.made.source("wrong")
+        self.assertEqual((self.made.solve()[0], os.path.exists(os.path.join(self.made.root, "crates", "solve", "out", "solve"))), (2, False))
+
+    def test_a_program_that_cannot_be_started_is_not_run(self):
+        os.remove(os.path.join(self.made.kit, "toolchain", "lib", "ld-linux-x86-64.so.2"))
+        status, out, said = self.made.solve()
+        self.assertEqual((status, out), (2, ""))
+        self.assertIn("tools/start: no loader", said)
 
 
 def example(name):

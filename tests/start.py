@@ -2,10 +2,13 @@
 
 import fcntl
 import os
+import re
 import subprocess
 import sys
 
 ROOT = os.path.dirname(os.path.dirname(os.path.abspath(__file__)))
+RUNS = re.compile(r"(?m)^rt: running out/")  # what rt says once the program is proved and linked
+
 
 
 class Unbuilt(Exception):
@@ -13,18 +16,20 @@ class Unbuilt(Exception):
 
 
 def build(names):
-    """Proves and links the programs of these names, unless they are there and nothing below them has changed."""
-    missing = [name for name in names if not os.path.exists(os.path.join(ROOT, "target", "bin", name))]
-    if missing:
-        print("building %s: everything below is proved first, which takes some minutes" % " and ".join(missing), file=sys.stderr, flush=True)
-    with open(os.path.join(ROOT, "crates.txt")) as lock:
-        fcntl.flock(lock, fcntl.LOCK_EX)  # that of ./solve: one prover at a time
-        try:
-            said = subprocess.run(["rt", "check", *names], cwd=ROOT, stdin=subprocess.DEVNULL, stdout=subprocess.PIPE, stderr=subprocess.STDOUT, text=True)
-        except FileNotFoundError:
-            raise Unbuilt("the Rattle toolchain is missing: no rt on the path") from None
-    if said.returncode != 0:
-        raise Unbuilt("%s`rt check %s` failed" % (said.stdout, " ".join(names)))
+    """Proves, compiles and links the programs of these names, where something below them has changed since. `rt run` does that, and then runs the program,
+    here on no input: that it runs it shows that it was proved and linked."""
+    for name in names:
+        folder = os.path.join(ROOT, "crates", name)
+        if not os.path.exists(os.path.join(folder, "out", name)):
+            print("building %s: what is not proved yet below it comes first, which may take some minutes" % name, file=sys.stderr, flush=True)
+        with open(os.path.join(ROOT, "crates.txt")) as lock:
+            fcntl.flock(lock, fcntl.LOCK_EX)  # that of ./solve: one at a time
+            try:
+                said = subprocess.run(["rt", "run"], cwd=folder, stdin=subprocess.DEVNULL, stdout=subprocess.DEVNULL, stderr=subprocess.PIPE, text=True)
+            except FileNotFoundError:
+                raise Unbuilt("the Rattle toolchain is missing: no rt on the path") from None
+        if not RUNS.search(said.stderr):
+            raise Unbuilt("%s`rt run` in crates/%s built no program" % (said.stderr, name))
 
 
 def words(name):

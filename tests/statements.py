@@ -1,9 +1,9 @@
 #!/usr/bin/env python3
 """Every statement of specs/ has its proof in proofs/ of the same crate, and docs/CLAIMS.md or docs/ENEMY.md cites it.
 
-A statement is a type of specs/ that takes nothing and that no other definition and no contract uses, `abbrev pub No-zero-lost : Type 0`: a type that
+A statement is a type of specs/ that takes nothing and that no other definition and no contract uses, `abbrev pub NoZeroLost : Type 0`: a type that
 nothing is made of is a claim. (A type that takes something is none; if not even a proof uses it, that is a fault.) Its proof is declared on a line of its
-own as `pub no-zero-lost : No-zero-lost`, with a clause, in a file that `mod` lines lead to from proofs/Lib.antt and that brings the name from specs/.
+own as `pub no_zero_lost : NoZeroLost`, with a clause, in a file that `mod` lines lead to from proofs/Lib.antt and that brings the name from specs/.
 The documents name statements in the columns Promise (docs/CLAIMS.md) and Statement (docs/ENEMY.md): each one there must be a statement.
 
     tests/statements.py       checks the crates and both documents, and prints how many statements each crate has
@@ -41,7 +41,7 @@ class Crates:
                 if path[:-1] not in ((), ("_",)) or not re.search(LEVEL, kind) or antt.said(text, path[-1]):
                     continue
                 takes = len(path) > 1 or not re.match(LEVEL, kind)
-                users = [user for files in [self.stated] + [self.proofs] * takes for way in ways(crate, stem) for user in files[way, path[-1]]]
+                users = [user for files in [self.stated] + [self.proofs] * takes for user in files[module(crate, stem), path[-1]]]
                 if not any(antt.said(text, here) for text, here in users):
                     yield crate, stem, path[-1], takes
 
@@ -59,9 +59,9 @@ def bringing(files):
     return users
 
 
-def ways(crate, file):
-    """The module of a file of specs/, as its own crate and as other crates name it."""
-    return [f"Rattle·{crate}·specs.specs.{file}", f"Rattle·{crate}.specs.{file}"]
+def module(crate, file):
+    """A file of specs/, as `use` lines name it."""
+    return f"Rattle.{crate}.specs.{file}"
 
 
 def proved(crate):
@@ -72,7 +72,7 @@ def proved(crate):
         own = {path[-1] for path, _, _ in declared}
         for path, marks, kind in declared:
             if len(path) == 1 and marks == ["pub"] and kind in brought and kind not in own and has_clause(text, path[0]):
-                yield brought[kind], path[0]
+                yield brought[kind], path[0].lower()
 
 
 def has_clause(text, name):
@@ -80,8 +80,8 @@ def has_clause(text, name):
 
 
 def proof_of(name):
-    """The proof's name: the statement's with a small first letter."""
-    return name[0].lower() + name[1:]
+    """The proof's name: the statement's words in snake case. (A proof may keep a capital that is a name, as `prints_F`.)"""
+    return re.sub(r"(?<!^)([A-Z])", r"_\1", name).lower()
 
 
 def cited():
@@ -101,7 +101,7 @@ def faults(claims, loose):
         yield f"crates/{crate}/specs/{file}.antt: nothing uses {name}, and it is no statement, as it takes something"
     proofs = {crate: set(proved(crate)) for crate in CRATES}
     for crate, file, name in claims:
-        if not any(((way, name), proof_of(name)) in proofs[crate] for way in ways(crate, file)):
+        if ((module(crate, file), name), proof_of(name)) not in proofs[crate]:
             yield (f"crates/{crate}/specs/{file}.antt: {name} has no proof: "
                    f"no file that proofs/Lib.antt leads to has `pub {proof_of(name)} : {name}`, with a clause")
     known, found = {f"{crate}/{file}.{name}" for crate, file, name in claims}, set()

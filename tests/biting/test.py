@@ -18,28 +18,47 @@ HERE = os.path.dirname(os.path.abspath(__file__))
 sys.path[:0] = [os.path.dirname(HERE)]
 
 from biting.edits import Bad, Edit, cited, faults
-from biting.prover import places
+from biting.prover import places, unread
 
-RETURNS = "@/proofs/f/Proof.antt:17:5: error: `returns`: `rw`: no occurrence of the left endpoint\n"
-FOLLOWS = "@/proofs/g/Proof.antt:2:1: error: `g-spec`: `returns` was not admitted, so this cannot be checked\n"
-MISSING = ("@/proofs/f/Proof.antt:4:1: error: `f-spec`: `tie.Need-cast`: module `Tie` has no `Need-cast` that can be named from here\n"
-           "@/proofs/f/Proof.antt:7:9: error: `returns`: record `After-g` has no field `g`\n")
-ALONE = "fn low::g: no proof: expected `g-spec` in proofs/g/Proof.antt; `search` does not close `fits`, `returns`\n"
-TYPE = "@/specs/Low.antt:3:1: error: `low`: expected type `Nat`, but this has type `Bool`\n"
-NOT_PROVED = "fn low::f: not proved\nlogic=not-proved\n"
-# what the prover says, and its status, by the word that stands in src/lib.rt
+RETURNS = "./proofs/f/Answers.antt:17:5: error: `returns`: `rw`: no occurrence of the path's left endpoint in the goal\n"
+FOLLOWS = "./proofs/g/Answers.antt:2:1: error: `loop-again`: `returns` was not admitted, so this cannot be checked\n"
+MISSING = ("./proofs/f/Answers.antt:4:1: error: `casts`: `goal.cast-result`: module `Goals` has no `cast-result` that can be named from here\n"
+           "./proofs/f/Answers.antt:7:9: error: `returns`: record `After` has no field `g`\n")
+ALONE = "fn low::g: no proof: expected answers in ./proofs/g/Answers.antt; `search` did not prove `fits`, `returns-else`\n"
+LAW = "./proofs/Laws.antt:12:1: error: `sum_fits`: expected type `Nat`, but this has type `Bool`\n"
+NOTE = "note: src/lib.rt:5:1: it is not proved that what the function ensures holds when it returns (`returns-else`)\n"
+TYPE = "./specs/Low.antt:3:1: error: `low`: `gone` is not in scope\n"
+NOT_PROVED = "fn low::f: not proved\nlogic=not-proved\nrt: rt check --only low::f checks that function and what it calls, and not the rest\n"
+# what `rt check` says, and its status, by the word that stands in src/lib.rt
 ANSWERS = {
     "right": ("logic=proved functions=1\n", 0),
     "wrong": (RETURNS + FOLLOWS + NOT_PROVED, 1),
+    "alone": (NOTE + ALONE + NOT_PROVED, 1),
+    "law": (LAW + NOT_PROVED, 1),
     "shape": (MISSING + FOLLOWS + NOT_PROVED, 1),
-    "syntax": ("@/src/lib.rt:1:1: error: expected an item\n", 1),
+    "syntax": ("src/lib.rt:1:1: error[unknown-name]: cannot find value `x` in this scope\n", 1),
+    "text": (TYPE + RETURNS + NOT_PROVED, 1),
     "unsure": ("rattle: no verdict: out of memory\n", 3),
 }
-PROVER = """#!/bin/sh
-word=$(cat "$4"); folder=${4%%/src/lib.rt}
-for incremental; do :; done
-mkdir -p "$incremental"
-sed "s|@|$folder|" "%s/$word.said"; exit "$(cat "%s/$word.status")"
+# `rt all check` keeps something of each crate; `rt check` wants that of the crate and of the library below, and answers by the word in the source
+RT = """#!/bin/sh
+case $1 in
+all)
+    echo "== summary"
+    for crate in crates/*; do
+        status=$(cat "$KIT/$(cat "$crate/src/lib.rt").status")
+        mkdir -p "$crate/out/incremental" "$crate/out/rlib"
+        echo kept >"$crate/out/incremental/part.oantt"; echo note >"$crate/out/incremental/note"; echo made >"$crate/out/rlib/stamp"
+        case $status in 0) echo "${crate##*/}: ok" ;; *) echo "${crate##*/}: failed ($status)" ;; esac
+    done
+    echo "some of them crates ok" ;;
+check)
+    word=$(cat src/lib.rt)
+    [ -f out/incremental/part.oantt ] && [ -f ../../crates.txt ] || { echo "nothing to begin with"; exit 2; }
+    grep -q '^high' ../../crates.txt && { [ -f ../low/out/rlib/stamp ] || { echo "no library low"; exit 2; }; }
+    echo more >>out/incremental/note
+    cat "$KIT/$word.said"; exit "$(cat "$KIT/$word.status")" ;;
+esac
 """
 
 
@@ -87,12 +106,12 @@ class Reading(Folder):
         self.refused("file: src/lib.rt\nat: x\n", "no whole pair")
 
     def test_only_code_and_definitions_are_edited(self):
-        self.refused("file: proofs/f/Proof.antt\nold: a\nnew: b\n", "not below src/ or specs/")
+        self.refused("file: proofs/f/Answers.antt\nold: a\nnew: b\n", "not below src/ or specs/")
         self.refused("file: src/../../high/src/lib.rt\nold: a\nnew: b\n", "not below src/ or specs/")
 
 
 class Fitting(Folder):
-    def faults(self, pairs, source="a b b c\n"):
+    def faults(self, pairs, source="a b b c fn f\n"):
         self.edit("file: src/lib.rt\n%sat: low::f returns\n" % pairs)
         return faults(self.source(source))
 
@@ -107,6 +126,22 @@ class Fitting(Folder):
         self.assertEqual(self.faults("old: e\nnew: d\n")[1], ["low!one: it no longer fits: 'e' stands 0 times in src/lib.rt"])
         self.assertEqual(self.faults("old: b\nnew: d\n")[1], ["low!one: it no longer fits: 'b' stands 2 times in src/lib.rt"])
 
+    def test_a_name_that_the_prover_makes_is_carried_over_to_the_proofs(self):
+        text = "file: src/lib.rt\nold: a\nnew: d\nas: i-ge1 i-ge2\n"
+        edit, crate = Edit(self.edit(text)), self.source("a b b c fn f\n")
+        with self.assertRaises(Bad) as caught:
+            edit.fits(crate)
+        self.assertIn("no file of proofs/ names i-ge1", str(caught.exception))
+        self.source("use goal.{returns-then-i-ge1, i-ge10}\nc.if-i-ge1.true\n", file="proofs/f/Answers.antt")
+        self.source("i-ge10\n", file="proofs/Laws.antt")
+        self.assertEqual(edit.fits(crate), {"src/lib.rt": "d b b c fn f\n", "proofs/f/Answers.antt": "use goal.{returns-then-i-ge2, i-ge10}\nc.if-i-ge2.true\n"})
+
+    def test_only_names_that_the_prover_makes_are_carried_over(self):
+        for line in ("refl sym", "i-ge1", "i-ge1 i-ge2 i-ge3", "i-ge1 refl", "(i-ge1) (i-ge2)"):
+            with self.assertRaises(Bad) as caught:
+                Edit(self.edit("file: src/lib.rt\nold: a\nnew: d\nas: %s\n" % line))
+            self.assertIn("has not two names of the prover's", str(caught.exception))
+
     def test_a_file_that_is_gone(self):
         self.edit("file: src/gone.rt\nold: a\nnew: b\n", folder="must-fail")
         self.assertEqual(faults(self.source("a")), (1, ["low!one: it no longer fits: there is no file src/gone.rt"]))
@@ -116,40 +151,65 @@ class Fitting(Folder):
         self.edit(text, folder="must-fail")
         self.edit(text + "at: low::f returns\n")
         self.edit(text, name="two")
-        count, wrong = faults(self.source("a"))
+        count, wrong = faults(self.source("a fn f"))
         self.assertEqual(count, 3)
         self.assertIn("must-fail/ has an edit of the same name", wrong[0])
         self.assertIn("low!two: it has no line at:", wrong[1])
 
-    def test_a_place_has_two_words_and_its_file_is_there(self):
-        self.edit("file: src/lib.rt\nold: a\nnew: b\nat: returns\n")
-        self.assertIn("has one word", faults(self.source("a"))[1][0])
-        self.edit("file: src/lib.rt\nold: a\nnew: b\nat: proofs/f/Proof.antt returns\n")
-        self.assertEqual(faults(self.source("a"))[1], ["low!one: its line at: names proofs/f/Proof.antt, which is not there"])
-        self.source("returns", file="proofs/f/Proof.antt")
-        self.assertEqual(faults(self.source("a"))[1], [])
+    def test_a_place_has_two_words_and_its_file_or_function_is_there(self):
+        for place, words in (("returns", "has one word"), ("proofs/Laws.antt law", "names proofs/Laws.antt, which is not there"),
+                             ("low::g returns", "names low::g, which is no function of the crate"),
+                             ("high::f returns", "names high::f"), ("f returns", "names f,")):
+            self.edit("file: src/lib.rt\nold: a\nnew: b\nat: %s\n" % place)
+            self.assertIn(words, faults(self.source("a fn f()"))[1][0])
+        self.source("-- a law\npub law : Nat\nother n = law\n", file="proofs/Laws.antt")
+        self.edit("file: src/lib.rt\nold: a\nnew: b\nat: proofs/Laws.antt n\n")
+        self.assertEqual(faults(self.source("a"))[1], ["low!one: its line at: names n, which proofs/Laws.antt does not declare"])
+        for place in ("low::f returns", "low::inner::f returns", "proofs/Laws.antt law"):
+            self.edit("file: src/lib.rt\nold: a\nnew: b\nat: %s\n" % place)
+            self.assertEqual(faults(self.source("a fn f()"))[1], [])
 
 
 class Places(unittest.TestCase):
     def test_a_fact_is_a_place_and_what_follows_or_is_not_understood_is_none(self):
-        said = (RETURNS + FOLLOWS + MISSING + ALONE + TYPE + "note: no function is declared\n" + NOT_PROVED).replace("@/", "")
-        self.assertEqual([place.words for place in places(said)], [["proofs/f/Proof.antt", "returns"], ["low::g", "fits", "returns"]])
+        found = places("low", RETURNS + FOLLOWS + MISSING + NOTE + ALONE + LAW + TYPE + "note: no function is declared\n" + NOT_PROVED)
+        self.assertEqual([place.words for place in found], [["low::f", "returns", "proofs/f/Answers.antt"], ["low::g", "fits"], ["low::g", "returns-else"],
+                                                            ["proofs/Laws.antt", "sum_fits"]])
+
+    def test_a_goal_that_no_file_answers_counts_unless_the_file_cites_what_is_gone(self):
+        left = NOTE + "fn low::f: not proved\n"
+        self.assertEqual([place.words for place in places("low", left)], [["low::f", "returns-else"]])
+        self.assertEqual([place.words[:2] for place in places("low", RETURNS + left)], [["low::f", "returns"], ["low::f", "returns-else"]])
+        self.assertEqual(places("low", MISSING + left), [])
+        self.assertEqual(places("low", NOTE + "fn low::h: proved\nfn low::f: not proved\n"), [])
 
     def test_words_are_whole_and_all_of_them_in_one_place(self):
-        place, = places(RETURNS.replace("@/", ""))
-        self.assertTrue(place.named(["proofs/f/Proof.antt", "returns"]))
-        self.assertFalse(place.named(["proofs/f/Proof.antt", "return"]))
-        self.assertFalse(place.named(["proofs/f", "returns"]))
-        self.assertFalse(place.named(["returns", "looked"]))
+        place, = places("low", RETURNS)
+        self.assertTrue(place.named(["low::f", "returns"]))
+        self.assertTrue(place.named(["proofs/f/Answers.antt", "returns"]))
+        self.assertFalse(place.named(["low::f", "return"]))
+        self.assertFalse(place.named(["low", "returns"]))
+        self.assertFalse(place.named(["returns", "occurrence"]))
+
+    def test_functions_in_modules_types_and_cycles(self):
+        for folder, function in (("head/Head/place", "low::head::Head::place"), ("text/+put", "low::text::put")):
+            place, = places("low", RETURNS.replace("/f/", "/%s/" % folder))
+            self.assertTrue(place.named([function, "returns"]))
 
     def test_words_in_the_terms_that_a_message_shows_do_not_count(self):
-        place, = places("proofs/f/Proof.antt:1:1: error: `close`: the types differ where one has `returns`\n")
-        self.assertTrue(place.named(["close"]))
+        place, = places("low", "./proofs/f/Answers.antt:1:1: error: `close`: the types differ where one has `returns`\n")
+        self.assertTrue(place.named(["low::f", "close"]))
         self.assertFalse(place.named(["returns"]))
+
+    def test_a_text_that_is_not_understood(self):
+        for said in (ANSWERS["syntax"][0], ANSWERS["text"][0], "specs/Low.antt:3:1: error: expected the end of the line\n"):
+            self.assertIsNotNone(unread(said))
+        for said in (RETURNS, LAW, NOTE, "./specs/Low.antt:3:1: error: `low`: expected type `Nat`, but this has type `Bool`\n"):
+            self.assertIsNone(unread(said))
 
 
 class Whole(Folder):
-    """The command, with a prover that answers by rote."""
+    """The command, with an rt that answers by rote."""
 
     def setUp(self):
         super().setUp()
@@ -157,26 +217,22 @@ class Whole(Folder):
         os.makedirs(os.path.join(self.room, "tests"))
         shutil.copy(os.path.join(tests, "teeth"), os.path.join(self.room, "tests", "teeth"))
         shutil.copytree(HERE, os.path.join(self.room, "tests", "biting"))
-        write(os.path.join(self.room, "crates.txt"), "# theory\nlow:\nhigh: low io\n")
+        write(os.path.join(self.room, "crates.txt"), "# theory\nlow:\nhigh staticlib: low json   # the top\nother: low\n")
         self.source("right")
         self.source("right", crate="high")
-        kit = os.path.join(self.room, "kit")
-        own = os.path.join(kit, "on", os.uname().machine)
-        for library in (own + "/rlib/std.rlib", own + "/rlib/io.rlib", self.room + "/target/rlib/low.rlib"):
-            os.makedirs(library)
+        self.kit = os.path.join(self.room, "kit")
         for word, (said, status) in ANSWERS.items():
-            write(os.path.join(own, word + ".said"), said)
-            write(os.path.join(own, word + ".status"), str(status))
-        os.chmod(write(own + "/bin/rattle", PROVER % (own, own)), 0o755)
-        os.chmod(write(os.path.join(self.room, "bin", "rt"), "#!/bin/sh\necho %s/docs/START-HERE.md\n" % kit), 0o755)
+            write(os.path.join(self.kit, word + ".said"), said)
+            write(os.path.join(self.kit, word + ".status"), str(status))
+        os.chmod(write(os.path.join(self.room, "bin", "rt"), RT), 0o755)
 
     def teeth(self, *words):
         """The status and the lines of a run."""
-        given = dict(os.environ, PATH=os.path.join(self.room, "bin") + ":" + os.environ["PATH"], RT_JOBS="2")
+        given = dict(os.environ, PATH=os.path.join(self.room, "bin") + ":" + os.environ["PATH"], KIT=self.kit, RT_JOBS="2")
         said = subprocess.run([sys.executable, os.path.join(self.room, "tests", "teeth"), *words], env=given, stdout=subprocess.PIPE, check=False)
         return said.returncode, said.stdout.decode().splitlines()
 
-    def word(self, word, at="at: proofs/f/Proof.antt returns\n", **where):
+    def word(self, word, at="at: low::f returns\n", **where):
         return self.edit("file: src/lib.rt\nold: right\nnew: %s\n%s" % (word, at), **where)
 
     def fails(self, words, *given):
@@ -189,36 +245,38 @@ class Whole(Folder):
 
     def test_refused_at_its_place(self):
         self.word("wrong")
-        self.word("wrong", crate="high", name="two")
+        self.word("alone", at="at: low::g returns-else\n", name="bare")
+        self.word("law", at="at: proofs/Laws.antt sum_fits\n", crate="high", name="two")
         status, lines = self.teeth()
-        self.assertEqual((status, lines[-1]), (0, "2 refused at their places, 0 failed"))
-        self.assertRegex("\n".join(lines), r"ok: high!two: refused at proofs/f/Proof.antt returns, \d+\.\d s")
+        self.assertEqual((status, lines[-1]), (0, "3 refused at their places, 0 failed"))
+        self.assertRegex("\n".join(lines), r"ok: high!two: refused at proofs/Laws.antt sum_fits, \d+\.\d s")
         self.assertEqual(self.teeth("high")[1][-1], "1 refused at their places, 0 failed")
+        with open(os.path.join(self.room, "target", "teeth", "low", "bare.log")) as log:
+            self.assertEqual(log.read(), ANSWERS["alone"][0])
 
     def test_each_way_to_fail_is_told(self):
         self.word("wrong", at="", name="nowhere")
-        self.word("wrong", at="at: proofs/g/Proof.antt returns\n", name="other")
+        self.word("wrong", at="at: low::g returns\n", name="other")
         self.word("right", name="same")
         self.word("shape", name="shape")
         self.word("syntax", name="syntax")
+        self.word("text", name="text")
         self.word("unsure", name="unsure")
         self.edit("file: src/lib.rt\nold: gone\nnew: wrong\nat: x\n", name="gone")
         self.word("wrong", name="good")
         told = "\n".join(self.fails("low!nowhere: it has no line at:"))
-        for words in ("low!other: it is refused elsewhere, not at 'proofs/g/Proof.antt returns': proofs/f/Proof.antt:",
+        for words in ("low!other: it is refused elsewhere, not at 'low::g returns': ./proofs/f/Answers.antt:",
                       "low!same: NOT REFUSED", "low!shape: it is refused at no fact", "low!syntax: no verdict on it (status 1)",
-                      "low!unsure: no verdict on it (status 3)", "low!gone: it no longer fits", "1 refused at their places, 7 failed"):
+                      "low!text: no verdict on it (status 1)", "low!unsure: no verdict on it (status 3)", "low!gone: it no longer fits",
+                      "1 refused at their places, 8 failed"):
             self.assertIn(words, told)
 
     def test_a_crate_that_is_not_proved(self):
         self.word("wrong")
-        self.source("unsure")
-        self.fails("low: the crate itself is not proved (status 3), and none of its edits was tried")
-
-    def test_a_library_that_is_missing(self):
-        self.word("wrong", crate="high")
-        os.rmdir(os.path.join(self.room, "target", "rlib", "low.rlib"))
-        self.fails("target/rlib/low.rlib is missing: run rt check first")
+        self.word("wrong", crate="high", name="two")
+        self.source("unsure", crate="high")
+        told = self.fails("high: the crate itself is not proved (failed (3)), and none of its edits was tried")
+        self.assertEqual(told[-1], "1 refused at their places, 1 failed")
 
     def test_names_that_are_no_crates_or_have_no_edit(self):
         self.fails("no crate has an edit in teeth/")
@@ -226,15 +284,16 @@ class Whole(Folder):
         self.fails("there is no crate hihg", "low", "hihg")
         self.fails("the crate high has no edit in teeth/", "high")
 
-    def test_a_place_is_learned_once(self):
-        path = self.edit("file: src/lib.rt\nold: right\nnew: wrong")
-        self.assertEqual(self.teeth("--learn")[0], 0)
-        self.assertEqual((Edit(path).pairs, Edit(path).at), ([("src/lib.rt", "right", "wrong")], ["proofs/f/Proof.antt", "returns"]))
-        self.assertEqual(self.teeth("--learn")[0], 0)
+    def test_a_place_is_learned_where_there_is_none_or_another(self):
+        path = self.edit("file: src/lib.rt\nold: right\nnew: alone")
+        for old, place in (("", ["low::g", "returns-else"]), ("at: low::g before\n", ["low::g", "returns-else"]), ("at: low::g fits\n", ["low::g", "fits"])):
+            write(path, "file: src/lib.rt\nold: right\nnew: alone\n" + old)
+            self.assertEqual(self.teeth("--learn")[0], 0)
+            self.assertEqual((Edit(path).pairs, Edit(path).at), ([("src/lib.rt", "right", "alone")], place))
         self.assertEqual(self.teeth()[0], 0)
 
     def test_fit_asks_no_prover(self):
-        self.source("", file="proofs/f/Proof.antt")
+        self.source("right fn f()")
         self.word("right")
         self.word("wrong", at="", folder="must-fail", name="two")
         self.assertEqual(self.teeth("--fit"), (0, ["2 edits, 0 failed"]))

@@ -1,9 +1,14 @@
-"""What the src/ of a crate declares, as paths: modules, functions, types, constants, the fields or cases of a type, and methods."""
+"""What the src/ of a crate declares, as paths: modules, functions, types, constants, the fields or cases of a type, and methods.
+
+    python3 tests/citing/rattle.py       how many functions the crates have
+"""
+import pathlib
 import re
 
 NOTES = re.compile(r"""b?"(?:\\.|[^"\\\n])*"|b?'(?:\\.|[^'\\\n])'|//[^\n]*|/\*.*?\*/""", re.S)
-ITEM = re.compile(r"""\s*(?:pub |ghost |extern "" )*(?P<kind>fn|struct|enum|const|impl|mod) (?P<name>\w+)""")
-MEMBER = re.compile(r"\s*(?:pub )?(?P<name>\w+)\s*(?:[:,({]|$)")
+ITEM = re.compile(r"""\s*(?:pub(?:\([^)]*\))? |ghost |extern "" )*(?P<kind>fn|struct|enum|const|impl|mod) (?:\w+ for )?(?P<name>\w+)""")
+FUNCTION = re.compile(r"""(?m)^ *(?:pub(?:\([^)]*\))? )?(?:extern "" )?fn \w""")
+MEMBER = re.compile(r"\s*(?:pub(?:\([^)]*\))? )?(?P<name>\w+)\s*(?:[:,({]|$)")
 
 
 def code(text):
@@ -42,3 +47,13 @@ def paths(src):
             found.add(path + item)
             waiting.append((path + item, below / item[-1], below / (item[-1] + ".rt")))
     return found
+
+
+def functions(text):
+    """How many functions a file has."""
+    return len(FUNCTION.findall(code(text)))
+
+
+if __name__ == "__main__":
+    top = pathlib.Path(__file__).resolve().parent.parent.parent
+    print("%d functions" % sum(functions(file.read_text()) for file in top.glob("crates/*/src/**/*.rt")))

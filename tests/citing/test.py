@@ -20,7 +20,7 @@ ROOT = TESTS.parent
 SMALL = {
     "crates/low/specs/Lib.antt": "pub mod Kinds\npub mod Claims\n",
     "crates/low/specs/Kinds.antt": """-- lines of numbers; once there was `Gone`
-use Prim.Native.Nat.{ℕ}
+use Rattle.std.specs.Prelude.{ℕ}
 
 abbrev pub Line : Type 0
 Line = ℕ → ℕ
@@ -43,26 +43,26 @@ module _ (l : Line) where
       inner : ℕ
       inner = 0
 """,
-    "crates/low/specs/Claims.antt": """use Rattle·low·specs.specs.Kinds.{Line}
+    "crates/low/specs/Claims.antt": """use Rattle.low.specs.Kinds.{Line}
 
-abbrev pub All-well : Type 0
-All-well = (l : Line) → l ≡ l
+abbrev pub AllWell : Type 0
+AllWell = (l : Line) → l ≡ l
 
-abbrev pub Never-lost : Type 0
-Never-lost = (l : Line) → l 0 ≡ l 0
+abbrev pub NeverLost : Type 0
+NeverLost = (l : Line) → l 0 ≡ l 0
 """,
     "crates/low/proofs/Lib.antt": "pub mod Claims\nmod Deep\n",
-    "crates/low/proofs/Claims.antt": """use Rattle·low·specs.specs.Claims.{All-well}
+    "crates/low/proofs/Claims.antt": """use Rattle.low.specs.Claims.{AllWell}
 
-pub all-well : All-well
-all-well l = refl
+pub all_well : AllWell
+all_well l = refl
 """,
     "crates/low/proofs/Deep.antt": "mod Lost\n",
-    "crates/low/proofs/Deep/Lost.antt": """use Rattle·low·specs.specs.Claims.{Never-lost}
+    "crates/low/proofs/Deep/Lost.antt": """use Rattle.low.specs.Claims.{NeverLost}
 
 -- nothing is lost
-pub never-lost : Never-lost
-never-lost l = refl
+pub never_lost : NeverLost
+never_lost l = refl
 """,
     "crates/low/src/lib.rt": """pub mod half;
 // pub mod quarter;
@@ -96,9 +96,9 @@ impl Box {
     "README.md": "",
     "docs/CLAIMS.md": """| Sentence | Definition | Promise | Teeth |
 |---|---|---|---|
-| All is well. | `low/Kinds.Line`, `Pair` | `low::first`; `low/Claims.All-well` | `low!wrong` |
+| All is well. | `low/Kinds.Line`, `Pair` | `low::first`; `low/Claims.AllWell` | `low!wrong` |
 """,
-    "docs/ENEMY.md": "## low/Claims: both\n\n| Statement | Tried |\n|---|---|\n| `Never-lost` | To lose `Pair`. |\n",
+    "docs/ENEMY.md": "## low/Claims: both\n\n| Statement | Tried |\n|---|---|\n| `NeverLost` | To lose `Pair`. |\n",
 }
 CLAIMS, KINDS, LOST = "crates/low/specs/Claims.antt", "crates/low/specs/Kinds.antt", "crates/low/proofs/Deep/Lost.antt"
 
@@ -145,98 +145,98 @@ class Statements(Small):
         self.assertEqual(self.run_check("statements.py"), (0, "2 statements, 0 faults (low 2)\n"))
 
     def test_a_proof_that_is_deleted_or_has_no_clause(self):
-        self.change(LOST, "never-lost l = refl\n", "")
-        self.fails("Never-lost has no proof")
-        self.change(LOST, "pub never-lost : Never-lost\n", "")
-        self.fails("Never-lost has no proof")
+        self.change(LOST, "never_lost l = refl\n", "")
+        self.fails("NeverLost has no proof")
+        self.change(LOST, "pub never_lost : NeverLost\n", "")
+        self.fails("NeverLost has no proof")
 
     def test_a_proof_of_something_else(self):
-        for kind in ("Unit", "All-well", "⊥ → Never-lost", "Never-lost → Unit", "Unit {0}\n    × Never-lost"):
-            self.write(LOST, SMALL[LOST].replace(": Never-lost", ": " + kind).replace("{Never-lost}", "{All-well, Never-lost}"))
-            self.fails("Never-lost has no proof")
+        for kind in ("Unit", "AllWell", "⊥ → NeverLost", "NeverLost → Unit", "Unit {0}\n    × NeverLost"):
+            self.write(LOST, SMALL[LOST].replace(": NeverLost", ": " + kind).replace("{NeverLost}", "{AllWell, NeverLost}"))
+            self.fails("NeverLost has no proof")
 
     def test_a_proof_that_is_commented_out(self):
-        proof = "pub never-lost : Never-lost\nnever-lost l = refl\n"
+        proof = "pub never_lost : NeverLost\nnever_lost l = refl\n"
         for hidden in ("-- " + proof.replace("\nn", "\n-- n"), "{-\n%s-}\n" % proof, "{- {- -}\n%s-}\n" % proof, "{- -- -}\n{-\n%s" % proof):
             self.write(LOST, SMALL[LOST].replace(proof, hidden))
-            self.fails("Never-lost has no proof")
+            self.fails("NeverLost has no proof")
 
     def test_a_proof_in_a_file_that_no_line_leads_to(self):
         for lib in ("pub mod Claims\n", "pub mod Claims\n-- mod Deep\n", "pub mod Claims\nmod Deeper\n"):
             self.write("crates/low/proofs/Lib.antt", lib)
-            self.fails("Never-lost has no proof")
+            self.fails("NeverLost has no proof")
         self.write("crates/low/proofs/Lib.antt", SMALL["crates/low/proofs/Lib.antt"])
         self.write("crates/low/proofs/Deep.antt", "")
-        self.fails("Never-lost has no proof")
+        self.fails("NeverLost has no proof")
 
     def test_a_proof_that_others_cannot_cite_or_that_is_none(self):
-        for marks in ("never-lost", "axiom pub never-lost", "axiom never-lost"):
-            self.write(LOST, SMALL[LOST].replace("pub never-lost", marks))
-            self.fails("Never-lost has no proof")
+        for marks in ("never_lost", "axiom pub never_lost", "axiom never_lost"):
+            self.write(LOST, SMALL[LOST].replace("pub never_lost", marks))
+            self.fails("NeverLost has no proof")
 
     def test_a_proof_under_another_name(self):
-        self.write(LOST, SMALL[LOST].replace("never-lost", "not-lost"))
-        self.fails("Never-lost has no proof")
+        self.write(LOST, SMALL[LOST].replace("never_lost", "not_lost"))
+        self.fails("NeverLost has no proof")
 
     def test_a_proof_that_assumes_something(self):
-        self.change(LOST, "pub never-lost : Never-lost\nnever-lost l = refl\n",
-                    "module _ (no : ⊥) where\n  pub never-lost : Never-lost\n  never-lost l = absurd no\n")
-        self.fails("Never-lost has no proof")
+        self.change(LOST, "pub never_lost : NeverLost\nnever_lost l = refl\n",
+                    "module _ (no : ⊥) where\n  pub never_lost : NeverLost\n  never_lost l = absurd no\n")
+        self.fails("NeverLost has no proof")
 
     def test_the_name_of_something_else(self):
-        own = "abbrev Never-lost : Type 0\nNever-lost = Unit\n\n"
-        for line in ("use Rattle·high.specs.Claims.{Never-lost}", "use Rattle·low·specs.specs.Claims.{All-well as Never-lost}", "use other.*\n\n" + own,
-                     "use Rattle·low·specs.specs.Claims.{Never-lost}\n\n" + own, "-- use Rattle·low·specs.specs.Claims.{Never-lost}"):
-            self.write(LOST, SMALL[LOST].replace("use Rattle·low·specs.specs.Claims.{Never-lost}", line))
-            self.fails("Never-lost has no proof")
+        own = "abbrev NeverLost : Type 0\nNeverLost = Unit\n\n"
+        for line in ("use Rattle.high.specs.Claims.{NeverLost}", "use Rattle.low.specs.Claims.{AllWell as NeverLost}", "use other.*\n\n" + own,
+                     "use Rattle.low.specs.Claims.{NeverLost}\n\n" + own, "-- use Rattle.low.specs.Claims.{NeverLost}"):
+            self.write(LOST, SMALL[LOST].replace("use Rattle.low.specs.Claims.{NeverLost}", line))
+            self.fails("NeverLost has no proof")
 
     def test_a_statement_that_is_deleted_or_commented_out_with_its_proof(self):
         self.write("crates/low/proofs/Deep/Lost.antt", "")
-        statement = "abbrev pub Never-lost : Type 0\nNever-lost = (l : Line) → l 0 ≡ l 0\n"
+        statement = "abbrev pub NeverLost : Type 0\nNeverLost = (l : Line) → l 0 ≡ l 0\n"
         for left in ("", "{-\n%s-}\n" % statement, "-- " + statement.replace("\nN", "\n-- N")):
             self.write(CLAIMS, SMALL[CLAIMS].replace(statement, left))
-            self.fails("docs/ENEMY.md: low/Claims.Never-lost is cited as a statement, and is none")
+            self.fails("docs/ENEMY.md: low/Claims.NeverLost is cited as a statement, and is none")
 
     def test_a_statement_that_is_renamed_in_specs_only(self):
-        self.change(CLAIMS, "Never-lost", "Not-lost")
-        self.fails("Not-lost has no proof")
-        self.fails("low/Claims.Never-lost is cited as a statement, and is none")
-        self.fails("low/Claims.Not-lost is cited neither")
+        self.change(CLAIMS, "NeverLost", "NotLost")
+        self.fails("NotLost has no proof")
+        self.fails("low/Claims.NeverLost is cited as a statement, and is none")
+        self.fails("low/Claims.NotLost is cited neither")
 
     def test_a_statement_in_other_forms(self):
-        self.change(CLAIMS, "abbrev pub Never-lost : Type 0\n", "pub Never-lost :\n    Type 0\n")
+        self.change(CLAIMS, "abbrev pub NeverLost : Type 0\n", "pub NeverLost :\n    Type 0\n")
         self.assertEqual(self.run_check("statements.py")[0], 0)
         self.write(LOST, "")
-        self.fails("Never-lost has no proof")
-        self.write(CLAIMS, SMALL[CLAIMS] + "\npub record Both : Type 0 where\n  pub well : All-well\n")
+        self.fails("NeverLost has no proof")
+        self.write(CLAIMS, SMALL[CLAIMS] + "\npub record Both : Type 0 where\n  pub well : AllWell\n")
         self.fails("Both has no proof")
 
     def test_a_statement_that_is_used_is_no_longer_one(self):
-        self.write(CLAIMS, SMALL[CLAIMS] + "\nabbrev pub Twice : Type 0\nTwice = Never-lost × Never-lost\n")
-        self.fails("low/Claims.Never-lost is cited as a statement, and is none")
+        self.write(CLAIMS, SMALL[CLAIMS] + "\nabbrev pub Twice : Type 0\nTwice = NeverLost × NeverLost\n")
+        self.fails("low/Claims.NeverLost is cited as a statement, and is none")
 
     def test_a_definition_that_nothing_uses(self):
         self.write(KINDS, SMALL[KINDS] + "\nabbrev pub Spare : Type 0\nSpare = ℕ\n")
         self.fails("Spare has no proof")
         self.write(KINDS, SMALL[KINDS])
-        self.write(CLAIMS, SMALL[CLAIMS] + "\nabbrev pub Lost-by : Line → Type 0\nLost-by l = l 0 ≡ l 1\n")
-        self.fails("nothing uses Lost-by, and it is no statement")
-        self.change(LOST, "{Never-lost}", "{Never-lost, Lost-by}")
-        self.fails("nothing uses Lost-by")
-        self.change(LOST, "never-lost l = refl", "never-lost l = refl\n\npub lost-by : (l : Line) → Lost-by l\nlost-by l = refl")
+        self.write(CLAIMS, SMALL[CLAIMS] + "\nabbrev pub LostBy : Line → Type 0\nLostBy l = l 0 ≡ l 1\n")
+        self.fails("nothing uses LostBy, and it is no statement")
+        self.change(LOST, "{NeverLost}", "{NeverLost, LostBy}")
+        self.fails("nothing uses LostBy")
+        self.change(LOST, "never_lost l = refl", "never_lost l = refl\n\npub lost_by : (l : Line) → LostBy l\nlost_by l = refl")
         self.assertEqual(self.run_check("statements.py")[0], 0)
 
     def test_a_statement_that_no_document_cites(self):
-        self.write("docs/ENEMY.md", SMALL["docs/ENEMY.md"].replace("`Never-lost`", "Never-lost"))
-        self.fails("low/Claims.Never-lost is cited neither in the column Promise")
-        self.write("docs/ENEMY.md", SMALL["docs/ENEMY.md"].replace("| `Never-lost` | To lose", "| | To lose `low/Claims.Never-lost`,"))
-        self.fails("low/Claims.Never-lost is cited neither in the column Promise")
+        self.write("docs/ENEMY.md", SMALL["docs/ENEMY.md"].replace("`NeverLost`", "NeverLost"))
+        self.fails("low/Claims.NeverLost is cited neither in the column Promise")
+        self.write("docs/ENEMY.md", SMALL["docs/ENEMY.md"].replace("| `NeverLost` | To lose", "| | To lose `low/Claims.NeverLost`,"))
+        self.fails("low/Claims.NeverLost is cited neither in the column Promise")
         self.write("docs/ENEMY.md", "")
-        self.change("docs/CLAIMS.md", "`low/Claims.All-well`", "`low/Claims.All-well`, `Never-lost`")
+        self.change("docs/CLAIMS.md", "`low/Claims.AllWell`", "`low/Claims.AllWell`, `NeverLost`")
         self.assertEqual(self.run_check("statements.py")[0], 0)
 
     def test_a_definition_in_the_column_of_statements(self):
-        self.change("docs/CLAIMS.md", "`low/Claims.All-well`", "`low/Claims.All-well`, `low/Kinds.Line`")
+        self.change("docs/CLAIMS.md", "`low/Claims.AllWell`", "`low/Claims.AllWell`, `low/Kinds.Line`")
         self.fails("docs/CLAIMS.md: low/Kinds.Line is cited as a statement, and is none")
 
 
@@ -247,7 +247,7 @@ class Names(Small):
 
     def test_what_is_declared(self):
         declared = ["low/Kinds", "low/Kinds.Line", "low/Kinds.Pair", "low/Kinds.Pair.left", "low/Kinds.right", "low/Kinds.Side.above", "low/Kinds.below",
-                    "low/Kinds.side", "low/Claims.All-well", "low::first", "low::WIDTH", "low::half", "low::half::Box", "low::half::Box::s",
+                    "low/Kinds.side", "low/Claims.AllWell", "low::first", "low::WIDTH", "low::half", "low::half::Box", "low::half::Box::s",
                     "low::half::Box::lower", "low::half::Side::Above", "low::half::Side::Below", "low!wrong"]
         status, said = self.cites(". ".join("`%s`" % name for name in declared))
         self.assertEqual((status, said), (0, "25 names cited, 0 missing, 0 files cite proofs/\n"))
@@ -262,7 +262,7 @@ class Names(Small):
 
     def test_short_names_are_of_the_file_or_the_path_before(self):
         self.assertEqual(self.cites("`low/Kinds.Line`, `Pair` and `side`; `low::half::Box::lower`, `s`, `Side::Above`, `low`, `anything`")[0], 0)
-        for names, gone in (("`low/Kinds.Line`, `All-well`", "low/Kinds.All-well"), ("`low/Kinds.Line` and `Old`", "low/Kinds.Old"),
+        for names, gone in (("`low/Kinds.Line`, `AllWell`", "low/Kinds.AllWell"), ("`low/Kinds.Line` and `Old`", "low/Kinds.Old"),
                             ("`low::half::Box::lower`,\n`upper`", "low::half::Box::upper"), ("`low::first`, `old`", "low::old")):
             self.assertEqual(self.cites(names)[1].split("\n")[0], "README.md: `%s` is nowhere" % gone)
 
@@ -276,8 +276,8 @@ class Names(Small):
 
 class Real(Room):
     """The crates and documents as they are: the six of which deleted proofs once went unnoticed, and every statement's name."""
-    SIX = {"Continued": "claims/proofs/Demands.antt", "Prints-finished": "claims/proofs/Program.antt", "Never-refused": "claims/proofs/Reached.antt",
-           "Rules-mean": "claims/proofs/Rules.antt", "Written-back": "writing/proofs/Claims.antt", "Doubles-exact": "boxes/proofs/Middles.antt"}
+    SIX = {"Continued": "claims/proofs/Demands.antt", "PrintsFinished": "claims/proofs/Program.antt", "NeverRefused": "claims/proofs/Reached.antt",
+           "RulesMean": "claims/proofs/Rules.antt", "WrittenBack": "writing/proofs/Claims.antt", "DoublesExact": "boxes/proofs/Middles.antt"}
 
     def setUp(self):
         super().setUp()
@@ -291,7 +291,7 @@ class Real(Room):
     def proof(self, name):
         """The file of a proof, its text, and the proof's own lines in it: the signature and its clauses."""
         file = "crates/" + self.SIX[name]
-        text, small = (self.room / file).read_text(), re.escape(name[0].lower() + name[1:])
+        text, small = (self.room / file).read_text(), re.sub(r"(?<!^)([A-Z])", r"_\1", name).lower()
         lines = re.search(r"(?m)^pub %s : %s\n(?:(?:unfolding |%s |[ ]).*\n|\n(?=%s ))+" % (small, name, small, small), text)
         return file, text, lines.group()
 
@@ -305,7 +305,7 @@ class Real(Room):
             self.write(file, text)
 
     def test_a_file_of_proofs_that_is_left_out(self):
-        for crate, file, name in (("claims", "Demands", "Continued"), ("writing", "Claims", "Written-back"), ("boxes", "Middles", "Doubles-once")):
+        for crate, file, name in (("claims", "Demands", "Continued"), ("writing", "Claims", "WrittenBack"), ("boxes", "Middles", "DoublesOnce")):
             self.change("crates/%s/proofs/Lib.antt" % crate, "mod %s\n" % file, "mod Nothing\n")
             self.fails(": %s has no proof" % name)
 

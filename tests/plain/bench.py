@@ -76,11 +76,9 @@ def loader():
     """The toolchain's own loader and C library, if it is here: both programs run under it."""
     if shutil.which("rt"):
         guide = subprocess.run(["rt", "doc"], capture_output=True, text=True).stdout.strip()
-        kit = os.path.dirname(os.path.dirname(guide))
-        for folder in ("on/%s/toolchain/lib" % platform.machine(), "toolchain/lib"):
-            there = os.path.join(kit, folder)
-            if os.path.exists(os.path.join(there, "ld-linux-x86-64.so.2")):
-                return [os.path.join(there, "ld-linux-x86-64.so.2"), "--library-path", there]
+        there = os.path.join(os.path.dirname(guide), "toolchain", "lib")
+        if os.path.exists(os.path.join(there, "ld-linux-x86-64.so.2")):
+            return [os.path.join(there, "ld-linux-x86-64.so.2"), "--library-path", there]
     if NATIVE:
         return []
     raise Missing("an x86-64 loader and C library: no toolchain (rt) on the path")
@@ -162,7 +160,7 @@ def desk_program(named):
             start.build(["solve"])
         except start.Unbuilt as reason:
             raise Missing(str(reason)) from None
-        return os.path.join(ROOT, "target", "bin", "solve")
+        return os.path.join(ROOT, "crates", "solve", "out", "solve")
     if not os.path.exists(named):
         raise Missing("no program at %s" % named)
     return os.path.abspath(named)

@@ -20,14 +20,16 @@ class Item:
 
 
 def read(text):
-    """The crates in their order; comment lines of one word name the layers, a comment behind a crate is its subject."""
+    """The crates in their order; comment lines of one word name the layers, a comment behind a crate is its subject. Behind its name may stand what kind of
+    crate it is, as `staticlib`."""
     crates, layer = {}, None
     for number, line in enumerate(text.splitlines(), 1):
         said, _, comment = (part.strip() for part in line.partition("#"))
         if not said:
             layer = comment if len(comment.split()) == 1 else layer
             continue
-        name, _, needs = said.partition(":")
+        kind, _, needs = said.partition(":")
+        name = kind.split()[0] if kind.split() else ""
         if not layer or not comment:
             raise HouseError("crates.txt, line %d: %s has no %s" % (number, name, "subject" if layer else "layer"))
         crates[name] = Crate(name, needs.split(), comment, layer)
