@@ -1,6 +1,4 @@
 -- The frame of boxes is lawful: the facts of this crate, law by law. Assumes nothing.
-use mathlib.Core.Path.{◌≡◌}
-use Prim.Native.Nat.{◌+◌}
 use native.Mathlib.Omega.{arith}
 use native.Mathlib.Nat as NatL
 use Rattle.bernstein.specs.Places.{size}

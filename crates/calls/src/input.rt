@@ -1,5 +1,5 @@
 // Numbers of eight bytes, the low byte first, and lent buffers filled from the input.
-use libc::STDIN_FILENO;
+use std::io::Read;
 
 fn wide(b: u8) -> u64 {
     b as u64
@@ -41,9 +41,8 @@ pub fn large(x: u64) -> u32 {
 }
 
 // Whether the input filled the bytes.
-pub fn filled(to: &mut [u8]) -> bool {
-    let n = io::read_full(STDIN_FILENO, to);
-    n == to.len()
+pub fn filled<R: Read>(from: &mut R, to: &mut [u8]) -> bool {
+    from.read_exact(to).is_ok()
 }
 
 fn put_numbers(bytes: &[u8], to: &mut [i64]) {
@@ -68,24 +67,24 @@ fn put_list(bytes: &[u8], to: &mut [u16]) -> bool {
 }
 
 // The next bytes of the input, eight for each of n numbers.
-fn taken(raw: &mut [u8], n: usize) -> bool {
+fn taken<R: Read>(from: &mut R, raw: &mut [u8], n: usize) -> bool {
     if raw.len() / 8 < n {
         return false;
     }
     let end = n * 8;
-    filled(&mut raw[0..end])
+    filled(from, &mut raw[0..end])
 }
 
-pub fn numbers(to: &mut [i64]) -> bool {
+pub fn numbers<R: Read>(from: &mut R, to: &mut [i64]) -> bool {
     let mut raw = [0u8; 49600];
-    let ok = taken(&mut raw, to.len());
+    let ok = taken(from, &mut raw, to.len());
     put_numbers(&raw, to);
     ok
 }
 
-pub fn list(to: &mut [u16]) -> bool {
+pub fn list<R: Read>(from: &mut R, to: &mut [u16]) -> bool {
     let mut raw = [0u8; 3584];
-    if !taken(&mut raw, to.len()) {
+    if !taken(from, &mut raw, to.len()) {
         return false;
     }
     put_list(&raw, to)

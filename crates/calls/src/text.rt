@@ -42,16 +42,15 @@ pub fn choice(out: &mut [u8], at: usize, table: &[u8], i: u8) -> usize {
 
 // A space and the number.
 pub fn number(out: &mut [u8], at: usize, x: u64) -> usize {
-    let mut digits = [0u8; 20];
-    let n = io::decimal(x, &mut digits);
+    let mut digits = itoa::Buffer::new();
     let to = byte(out, at, b' ');
-    word(out, to, &digits[..n])
+    word(out, to, digits.format(x).as_bytes())
 }
 
 // A space and sixteen hexadecimal digits.
 pub fn hash(out: &mut [u8], at: usize, x: u64) -> usize {
     let mut digits = [0u8; 16];
-    let n = io::hex(x, 16, &mut digits);
+    hex::encode_to_slice(x.to_be_bytes(), &mut digits).unwrap();
     let to = byte(out, at, b' ');
-    word(out, to, &digits[..n])
+    word(out, to, &digits)
 }

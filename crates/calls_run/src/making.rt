@@ -5,7 +5,7 @@ use crate::{boxing, filing, searching};
 use calls::header::both;
 use calls::told::Told;
 use calls::{header, input, show};
-use libc::STDOUT_FILENO;
+use std::io::{Read, Write};
 
 fn on_file(b: &[u8], which: u8, file: &mut [u8], coefficients: &mut [i64]) -> Told {
     match which {
@@ -47,36 +47,56 @@ fn made(
     }
 }
 
-fn print(out: &[u8], n: usize) -> bool {
+fn print<W: Write>(to: &mut W, out: &[u8], n: usize) -> bool {
     if out.len() < n {
         return false;
     }
-    io::write_all(STDOUT_FILENO, &out[0..n])
+    to.write_all(&out[0..n]).is_ok()
 }
 
-fn memory(file: &[u8], coefficients: &[i64], store: &[i64], list: &[u16]) -> bool {
+fn memory<W: Write>(
+    to: &mut W,
+    file: &[u8],
+    coefficients: &[i64],
+    store: &[i64],
+    list: &[u16],
+) -> bool {
     let mut out = [0u8; 512];
     let x = show::file(&mut out, 0, file);
     let y = show::coefficients(&mut out, x, coefficients);
     let z = show::waiting(&mut out, y, store);
     let n = show::kept(&mut out, z, list);
-    print(&out, n)
+    print(to, &out, n)
 }
 
-fn told(index: u64, which: u8, t: Told) -> bool {
+fn told<W: Write>(to: &mut W, index: u64, which: u8, t: Told) -> bool {
     let mut out = [0u8; 512];
     let x = show::first_line(&mut out, index, which);
     let n = show::told(&mut out, x, t);
-    print(&out, n)
+    print(to, &out, n)
 }
 
 // The four buffers of a call.
-fn filled(file: &mut [u8], coefficients: &mut [i64], store: &mut [i64], list: &mut [u16]) -> bool {
-    let x = both(input::filled(file), input::numbers(coefficients));
-    both(x, both(input::numbers(store), input::list(list)))
+fn filled<R: Read>(
+    from: &mut R,
+    file: &mut [u8],
+    coefficients: &mut [i64],
+    store: &mut [i64],
+    list: &mut [u16],
+) -> bool {
+    let x = both(
+        input::filled(from, file),
+        input::numbers(from, coefficients),
+    );
+    both(
+        x,
+        both(input::numbers(from, store), input::list(from, list)),
+    )
 }
 
-fn on_parts(
+fn on_parts<R: Read, W: Write>(
+    from: &mut R,
+    to: &mut W,
     index: u64,
     b: &[u8],
     file: &mut [u8],
@@ -84,13 +104,13 @@ fn on_parts(
     store: &mut [i64],
     list: &mut [u16],
 ) -> bool {
-    if !filled(file, coefficients, store, list) {
+    if !filled(from, file, coefficients, store, list) {
         return false;
     }
     let t = made(b, file, coefficients, store, list);
     both(
-        told(index, header::which(b), t),
-        memory(file, coefficients, store, list),
+        told(to, index, header::which(b), t),
+        memory(to, file, coefficients, store, list),
     )
 }
 
@@ -101,7 +121,9 @@ fn least(x: u64, most: usize) -> usize
 }
 
 // The header has been tested, so each part is as long as it says.
-fn with_header(
+fn with_header<R: Read, W: Write>(
+    from: &mut R,
+    to: &mut W,
     index: u64,
     b: &[u8],
     file: &mut [u8],
@@ -114,6 +136,8 @@ fn with_header(
     let w = least(input::number_at(b, 3), store.len());
     let k = 7 * least(input::number_at(b, 4), list.len() / 7);
     on_parts(
+        from,
+        to,
         index,
         b,
         &mut file[0..f],
@@ -124,7 +148,9 @@ fn with_header(
 }
 
 // Whether there was a call in the form, and it was made.
-pub fn one(
+pub fn one<R: Read, W: Write>(
+    from: &mut R,
+    to: &mut W,
     index: u64,
     file: &mut [u8],
     coefficients: &mut [i64],
@@ -132,9 +158,9 @@ pub fn one(
     list: &mut [u16],
 ) -> bool {
     let mut b = [0u8; 160];
-    let whole = input::filled(&mut b);
+    let whole = input::filled(from, &mut b);
     if !both(whole, header::fits(&b)) {
         return false;
     }
-    with_header(index, &b, file, coefficients, store, list)
+    with_header(from, to, index, &b, file, coefficients, store, list)
 }

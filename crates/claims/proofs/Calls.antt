@@ -6,7 +6,7 @@ use Prim.Native.Nat.{ℕ, suc, ◌+◌, ◌*◌, ◌-◌, ◌^◌, ◌≤◌}
 use native.Mathlib.Omega.{arith}
 use lib.Pow.{pow_pos, pow_mono}
 use lib.IntN.{ℤ}
-use lib.ListN.{length, length-map}
+use lib.ListN.{length-map}
 use Rattle.whole.specs.Half.{Half, lower, upper}
 use Rattle.bernstein.specs.Numbers.{unit}
 use Rattle.system.specs.declared.head.Head.{Head}
@@ -31,7 +31,7 @@ use Rattle.waiting.proofs.Judging.{judged_allowed}
 use Rattle.waiting.proofs.Keeping.{KeptIn, allowed_in}
 use Rattle.waiting.proofs.Standing.{Stands, stands_closed, unit_allowed}
 use Rattle.waiting.proofs.Starting.{start_passes, fresh_held, fresh_length, start_fit}
-use Rattle.waiting.proofs.Sounds.{passes, sound}
+use Rattle.waiting.proofs.Sounds.{sound}
 use Rattle.claims.specs.Calls.{Memory, Begun}
 
 -- ---- what the check of a state asks: slots that the rules allow, and counts that can't pass 2^31 - 1

@@ -1,7 +1,7 @@
 -- The demands, proved: each is what `search` shows of every call, whatever a cell is, at what the boxes of a system keep (Calls). Assumes nothing.
 use mathlib.Core.Path.{◌≡◌, sym, ◌∙◌, subst}
 use mathlib.Core.List.{List, [], ◌∷◌}
-use Prim.Native.Nat.{ℕ, zero, suc, ◌-◌, ◌<◌}
+use Prim.Native.Nat.{ℕ, zero, suc, ◌<◌}
 use native.Mathlib.Omega.{arith}
 use lib.IntN.{ℤ}
 use Rattle.waiting.specs.Starts.{fresh_store}

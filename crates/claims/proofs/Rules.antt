@@ -3,7 +3,7 @@ use mathlib.Core.Path.{◌≡◌, refl, subst}
 use mathlib.Core.Bool.{Bool, true, false, cond, ◌&&◌}
 use mathlib.Core.List.{List}
 use mathlib.Core.Logic.{◌⊎◌, inl, inr}
-use Prim.Native.Nat.{ℕ, suc, ◌-◌, ◌≤◌, ◌<◌}
+use Prim.Native.Nat.{ℕ, suc, ◌≤◌, ◌<◌}
 use native.Mathlib.Omega.{arith}
 use native.Mathlib.Nat as NatL
 use borrow.Author.Tests.{ltb-true, ltb-false}
@@ -22,7 +22,7 @@ use Rattle.system.specs.Directions.{direction_number}
 use Rattle.system.specs.Heads.{degrees, width}
 use Rattle.slots.specs.declared.Decision.{Decision}
 use Rattle.slots.specs.declared.Choice.{Choice}
-use Rattle.slots.specs.Slots.{at, numbers}
+use Rattle.slots.specs.Slots.{numbers}
 use Rattle.slots.specs.Rules.{decided, better, chosen, limit, can_cut, able, by_choice, looked_by, looked}
 use Rattle.waiting.specs.Cells.{as_look}
 use Rattle.waiting.proofs.Judging.{every_says}

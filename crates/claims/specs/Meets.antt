@@ -33,8 +33,8 @@ abbrev pub StartReaches : Type 0
 StartReaches = (h : Head) (cs st : List ℤ) → start_check h cs st ≡ Checked.Good → (list : List Kept) → Reached h cs st fresh_state list (fresh_store h cs st)
 
 module _ (h : Head) (cs st : List ℤ) (s : State) (list : List Kept) (store : List ℤ) where
-  abbrev pub Goes_on : Type 0
-  Goes_on =
+  abbrev pub GoesOn : Type 0
+  GoesOn =
       ((budget : ℕ) (r : Stop) → (run_of h s budget list store).answer ≡ Run.Answer.Stopped r
       → Reached h cs st r.state (run_of h s budget list store).end.list (run_of h s budget list store).end.store)
       × ((v : Seen) → (visit_of h s list store).answer ≡ Visit.Answer.Saw v
@@ -42,7 +42,7 @@ module _ (h : Head) (cs st : List ℤ) (s : State) (list : List Kept) (store : L
       × ((next : List Kept) → take s.kept list ≡ take s.kept next → length list ≤ length next → Reached h cs st s next store)
 
 abbrev pub ReachedGoesOn : Type 0
-ReachedGoesOn = (h : Head) (cs st : List ℤ) (s : State) (list : List Kept) (store : List ℤ) → Reached h cs st s list store → Goes_on h cs st s list store
+ReachedGoesOn = (h : Head) (cs st : List ℤ) (s : State) (list : List Kept) (store : List ℤ) → Reached h cs st s list store → GoesOn h cs st s list store
 
 -- and lent memory likewise: as a start leaves it, with any list, and as a call leaves it, with a list that is no shorter and begins with the same entries
 abbrev pub Begins : Type 0

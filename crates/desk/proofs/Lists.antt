@@ -1,12 +1,12 @@
 -- The records of a list of numbers, one after the other. Assumes nothing.
-use Prim.Native.Nat.{ℕ, zero, suc, ◌+◌, ◌*◌, ◌-◌, ◌/◌, ◌≤◌, ◌<◌, min}
-use mathlib.Core.Path.{◌≡◌, refl, sym, ap, ◌∙◌}
+use Prim.Native.Nat.{ℕ, zero, suc, ◌+◌, ◌*◌, ◌-◌, ◌≤◌, ◌<◌, min}
+use mathlib.Core.Path.{◌≡◌, refl, ap, ◌∙◌}
 use mathlib.Core.List.{List, [], ◌∷◌, ◌++◌}
 use native.Mathlib.Omega.{arith}
-use lib.ListN.{length, take, drop, get_or}
+use lib.ListN.{take, drop, get_or}
 use lib.Seq.{drop-drop, get_or-drop}
 use Rattle.waiting.specs.declared.cursor.Kept.{Kept}
-use Rattle.runs.specs.Lists.{seven, first, taken, listed}
+use Rattle.runs.specs.Lists.{first, taken}
 use Rattle.desk.specs.Lines.{kept_line, kept_lines}
 
 -- of n records from place i on, the next one and the rest

@@ -7,11 +7,10 @@ use lib.ListN.{length, drop, get_or, length-append}
 use lib.Seq.{get_or-drop}
 use Rattle.boxes.specs.declared.visit.Word.{Word}
 use Rattle.boxes.specs.declared.visit.Word.TheVariants.{Finished, Spent, Full}
-use Rattle.waiting.specs.declared.cursor.Kept.{Kept}
 use Rattle.runs.specs.Lists.{first, taken}
 use Rattle.desk.specs.Text.{decimal, ended, line}
 use Rattle.desk.proofs.Decimals.{as_few}
-use Rattle.desk.specs.Lines.{word, refused, at, refused_line, stop_line, kept_line, kept_lines}
+use Rattle.desk.specs.Lines.{word, at, refused_line, stop_line, kept_line, kept_lines}
 
 -- one more number, of at most k + 1 digits
 ended_one : (k n : ℕ) (ws : List (List ℕ)) → n < 10 ^ suc k → length (ended (decimal n ∷ ws)) ≤ 2 + k + length (ended ws)

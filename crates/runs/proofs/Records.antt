@@ -20,7 +20,7 @@ use Rattle.waiting.specs.Runs.{Way, way, turned, went}
 use Rattle.waiting.proofs.Driving.{turns_left}
 use Rattle.waiting.proofs.Judging.{judged_by_number}
 use Rattle.waiting.proofs.Keeping.{next_fewer}
-use Rattle.runs.specs.Runs.{opened, answered, set_out, run_of}
+use Rattle.runs.specs.Runs.{opened, answered, run_of}
 use Rattle.runs.specs.Visits.{unseen, told, One, one, visit_of}
 use Rattle.runs.proofs.Turns.{Good, less, starts, turns, ends}
 

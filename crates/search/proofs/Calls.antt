@@ -7,14 +7,14 @@
 use mathlib.Core.Path.{◌≡◌, refl, sym, ap, ◌∙◌, subst}
 use mathlib.Core.Logic.{inl, inr}
 use mathlib.Core.List.{List, []}
-use Prim.Native.Nat.{ℕ, suc, ◌+◌, ◌*◌, ◌-◌, ◌≤◌}
+use Prim.Native.Nat.{ℕ, suc, ◌*◌, ◌-◌, ◌≤◌}
 use native.Mathlib.Omega.{arith}
 use native.Mathlib.Nat as NatL
-use lib.ListN.{length, take}
+use lib.ListN.{length}
 use lib.Seq.{take-take}
 use Rattle.search.specs.Lists.{All, Any}
 use Rattle.search.specs.Machine.{Answer, finished, spent, full, BothStop}
-use Rattle.search.specs.Search.{Entry, States, Log, state, start, run, log}
+use Rattle.search.specs.Search.{Entry, States, state, start, run, log}
 use Rattle.search.specs.Claims.{Sound, KeptBy, SeenBy, Fitting, Held, Means, Nests, Further}
 use Rattle.search.specs.Counts.{Measured, Counted}
 use Rattle.search.specs.Lent.{Slots, slots, Lent, memory, held, stack, used, Stacked, Enough, Holds, HalvesWide}

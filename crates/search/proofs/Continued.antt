@@ -4,7 +4,7 @@ use lib.ListN.{length}
 use Prim.Native.Nat.{ℕ, ◌-◌, ◌≤◌}
 use native.Mathlib.Omega.{arith}
 use Rattle.search.specs.Machine.{Machine, drive, Called, first, again}
-use Rattle.search.specs.Search.{Visit, state, visit, turn, due}
+use Rattle.search.specs.Search.{Visit, visit, turn, due}
 use Rattle.search.specs.Lent.{Slots, slots, Lent, held, lent_top, lent, used, LentCalled, lent_first, lent_again, LentContinued}
 use Rattle.search.proofs.Machine.{Simulates, drive_in_step, Counting, drive_called}
 use Rattle.search.proofs.Search.{turn_wider, search_counts}

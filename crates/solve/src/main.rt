@@ -1,31 +1,34 @@
 // The desk program: reads a system file from standard input and writes what is found to standard output. What could not be read or written it says on
-// standard error; of a file that was not read to its end it answers nothing.
+// standard error; of a file that was not read to its end it answers nothing. It ends with a status other than 0 only where not even that can be said.
 #![tactic(auto)]
 
 mod moving;
+#[cfg(test)]
+mod tests;
 
 use runs::runs::Answer;
+use std::io;
 
-fn print(a: Answer, list: &[u16; 7168]) {
+fn print(rt: &HostRuntime, a: Answer, list: &[u16; 7168]) -> io::Result<()> {
     let mut text = [0u8; 43101];
     let n = desk::tell(a, list, &mut text);
-    if !moving::write(&text[..n]) {
-        os::fail(b"solve: not all of the answer could be written");
+    match moving::write(&mut rt.stdout(), &text[..n]) {
+        Ok(()) => Ok(()),
+        Err(why) => eprintln!(rt; "solve: not all of the answer could be written: {why}"),
     }
 }
 
-fn solve(file: &[u8]) {
+fn solve(rt: &HostRuntime, file: &[u8]) -> io::Result<()> {
     let mut list = [0u16; 7168];
     let a = desk::search(file, &mut list);
-    print(a, &list);
+    print(rt, a, &list)
 }
 
-fn main() {
-    let mut file = io::buffer();
-    let read = moving::read(&mut file);
-    if read.whole {
-        solve(&file[..read.count]);
-    } else {
-        os::fail(b"solve: not all of the input could be read");
+fn main(rt: HostRuntime) -> io::Result<()> {
+    let mut file = [0u8; 4096];
+    let read = moving::read(&mut rt.stdin(), &mut file);
+    match read.whole {
+        Ok(()) => solve(&rt, &file[..read.count]),
+        Err(why) => eprintln!(rt; "solve: not all of the input could be read: {why}"),
     }
 }

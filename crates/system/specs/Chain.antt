@@ -1,7 +1,6 @@
 -- A chain of tests, of which the first that fails answers (01, "Refusal numbers": "All return the number and an offset"). Definitions only.
 use Rattle.std.specs.Prelude.{ℕ, Bool, cond}
 use Rattle.system.specs.declared.refusal.Refusal.{Refusal}
-use Rattle.system.specs.declared.refusal.Refused.{Refused}
 use Rattle.system.specs.declared.head.Checked.{Checked}
 use Rattle.system.specs.declared.head.Checked.TheVariants.{Good, Refused as Stopped}
 

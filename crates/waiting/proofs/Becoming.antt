@@ -11,7 +11,6 @@ use Rattle.boxes.specs.declared.half.Direction.{Direction}
 use Rattle.boxes.specs.declared.visit.Sign.{Sign}
 use Rattle.boxes.specs.declared.visit.Outcome.{Outcome}
 use Rattle.boxes.specs.declared.visit.Word.{Word}
-use Rattle.boxes.specs.declared.visit.Visit.{Visit}
 use Rattle.boxes.specs.Boxes.{direction}
 use Rattle.slots.specs.Slots.{box_in, half_slot}
 use Rattle.search.specs.Lent.{in_slot, given_up, lent_become}

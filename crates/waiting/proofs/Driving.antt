@@ -10,7 +10,7 @@ use Rattle.bernstein.specs.Numbers.{Box}
 use Rattle.boxes.specs.declared.visit.Outcome.{Outcome}
 use Rattle.boxes.specs.declared.visit.Word.{Word}
 use Rattle.boxes.specs.declared.visit.Word.TheVariants.{Finished, Spent, Full}
-use Rattle.search.specs.Machine.{Answer, finished, spent, full, Turn, nothing, no_room, go, Stop, stop, drive}
+use Rattle.search.specs.Machine.{Answer, finished, spent, full, Turn, nothing, no_room, go, stop, drive}
 use Rattle.search.specs.Search.{Entry, entry}
 use Rattle.search.specs.Lent.{Lent, lent, lent_top, lent_become}
 use Rattle.search.proofs.Machine.{drive_nothing, drive_spent, drive_full, drive_go}

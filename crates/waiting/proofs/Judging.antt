@@ -1,5 +1,5 @@
 -- The tests of a state say what 01 says: a slot, the waiting slots, the counts, and the whole check (`judged_allowed`). Assumes nothing.
-use mathlib.Core.Path.{◌≡◌, refl, sym, ap, ◌∙◌, subst}
+use mathlib.Core.Path.{◌≡◌, refl, sym, ap, subst}
 use mathlib.Core.Bool.{Bool, true, false}
 use mathlib.Core.List.{List, [], ◌∷◌}
 use Prim.Native.Nat.{ℕ, zero, suc, ◌+◌, ◌*◌, ◌^◌, ◌≤◌, ◌<◌}
@@ -22,7 +22,7 @@ use Rattle.slots.specs.Slots.{at, column, numbers, SpanFits}
 use Rattle.slots.specs.Rules.{every, within}
 use Rattle.search.specs.Lent.{slot}
 use Rattle.system.specs.Chain.{test, ◌then◌}
-use Rattle.waiting.specs.States.{most, cuts, needed, span_ok, slot_ok, slots_ok, counts_ok, records_ok, list_ok, judged_by, judged, SlotAllowed, JudgedByNumber, JudgedAllowed}
+use Rattle.waiting.specs.States.{most, cuts, needed, span_ok, slot_ok, slots_ok, counts_ok, records_ok, list_ok, judged_by, SlotAllowed, JudgedByNumber, JudgedAllowed}
 use Rattle.waiting.specs.declared.state.State.{State}
 use Rattle.waiting.specs.declared.cursor.Kept.{Kept}
 

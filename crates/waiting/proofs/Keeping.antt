@@ -11,7 +11,7 @@ use Rattle.bernstein.specs.Numbers.{Box, unit}
 use Rattle.system.specs.declared.head.Head.{Head}
 use Rattle.system.specs.declared.head.Checked.TheVariants.{Good}
 use Rattle.boxes.specs.declared.visit.Outcome.{Outcome}
-use Rattle.system.specs.Heads.{places, depth, width, Limits}
+use Rattle.system.specs.Heads.{depth, width, Limits}
 use Rattle.search.specs.Machine.{go, drive}
 use Rattle.search.specs.Search.{Entry, entry, States, visit, run}
 use Rattle.search.specs.Lent.{stack, slots, Lent, lent, held, Enough, Holds, lent_become}

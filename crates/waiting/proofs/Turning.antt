@@ -16,7 +16,6 @@ use Rattle.system.specs.declared.head.Head.{Head}
 use Rattle.boxes.specs.declared.half.Direction.{Direction}
 use Rattle.boxes.specs.declared.visit.Outcome.{Outcome}
 use Rattle.boxes.specs.declared.visit.Word.{Word}
-use Rattle.boxes.specs.declared.visit.Word.TheVariants.{Finished, Spent, Full}
 use Rattle.system.specs.Heads.{depth, depths, width}
 use Rattle.boxes.specs.Boxes.{direction}
 use Rattle.slots.specs.Slots.{box_in, SlotFits}

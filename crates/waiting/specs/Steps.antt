@@ -1,17 +1,15 @@
 -- One step of a run (01, "One visit", "Runs"): the cursor and the store, by the lent machine, for any cells that are boxes; those of a system are `boxed h`.
 -- The list is not here: the step says which record goes where. Definitions only.
 use Rattle.std.specs.Prelude.{◌≡◌, true, false, cond, List, [], ℕ, ◌+◌, ◌-◌, ◌*◌, ◌^◌, ◌≤◌, ◌<◌, leb, eqb, ℤ, length}
-use Rattle.bernstein.specs.Three.{◌!◌}
 use Rattle.bernstein.specs.Numbers.{Box, unit}
 use Rattle.system.specs.declared.head.Head.{Head}
 use Rattle.boxes.specs.declared.half.Direction.{Direction}
 use Rattle.boxes.specs.declared.visit.Outcome.{Outcome}
 use Rattle.boxes.specs.declared.visit.Visit.{Visit}
 use Rattle.boxes.specs.declared.visit.Word.{Word}
-use Rattle.system.specs.Heads.{depths, width, Limits}
-use Rattle.boxes.specs.Boxes.{direction, from_box}
+use Rattle.system.specs.Heads.{width, Limits}
+use Rattle.boxes.specs.Boxes.{from_box}
 use Rattle.slots.specs.Slots.{SlotFits}
-use Rattle.search.specs.Search.{Entry}
 use Rattle.search.specs.Lent.{slot, Lent, lent_become}
 use Rattle.waiting.specs.declared.state.State.{State}
 use Rattle.waiting.specs.declared.cursor.Kept.{Kept}

@@ -78,15 +78,15 @@ module _ {M : Type 1} {𝓤 : Ura M} (𝓛 : Logic 𝓤) where
   Token κ s = sep 𝓤 (A.lft κ s) (emp 𝓤)
 
   -- the result r, and a fact
-  abbrev pub Given_back : (d : Datum) → d.row.Denot → Type 0 → SProp 𝓤 → Fml → Val → SProp 𝓤
-  Given_back d r φ tok L w = guard 𝓤 (Has d r w × φ) (sep 𝓤 tok (sem 𝓛 L))
+  abbrev pub GivenBack : (d : Datum) → d.row.Denot → Type 0 → SProp 𝓤 → Fml → Val → SProp 𝓤
+  GivenBack d r φ tok L w = guard 𝓤 (Has d r w × φ) (sep 𝓤 tok (sem 𝓛 L))
 
   -- a callee c, at x, that takes the slice, and then gives r and says L
   abbrev pub Goes : (c : Contract 𝓤) → (ℕ → GName → c.Ghost) → (Lft → GName → Fml) → Type 1
   Goes c x slice = (ν : ℕ) (δ : GName) → ent 𝓤 (sep 𝓤 (A.lft (ν ∷ []) full_share) (sem 𝓛 (slice (ν ∷ []) δ))) (c.pre (x ν δ))
 
   abbrev pub Gives : (c : Contract 𝓤) → (ℕ → GName → c.Ghost) → (d : Datum) → d.row.Denot → Type 0 → (GName → Fml) → Type 1
-  Gives c x d r φ L = (ν : ℕ) (δ : GName) (w : Val) → ent 𝓤 (c.post (x ν δ) w) (H.⇛ (Given_back d r φ (Token (ν ∷ []) full_share) (L δ) w))
+  Gives c x d r φ L = (ν : ℕ) (δ : GName) (w : Val) → ent 𝓤 (c.post (x ν δ) w) (H.⇛ (GivenBack d r φ (Token (ν ∷ []) full_share) (L δ) w))
 
   module _ where
     around_in : (bs : List Datum) (a : Denots (rows bs)) (F : Fml) → Fit bs a → ent 𝓤 (sem 𝓛 F) (sem 𝓛 (around bs a F))
@@ -107,7 +107,7 @@ module _ {M : Type 1} {𝓤 : Ura M} (𝓛 : Logic 𝓤) where
 
     -- where the contract has k values that are not lent: it gives the r that its `ensures` fixes
     pub gives_data : (d : Datum) (tok : SProp 𝓤) (k : ℕ) (Φ : d.row.Denot → Type 0) (r : d.row.Denot) → ((r' : d.row.Denot) → Φ r' → r' ≡ r)
-        → (w : Val) → ent 𝓤 (H.⇛ (ex 𝓤 (λ (r' : d.row.Denot). sep 𝓤 (sep 𝓤 tok (sem 𝓛 (d.row.own_val r' (w ∷ [])))) (ex 𝓤 (λ (ws : Units k). sep 𝓤 (sem 𝓛 (trues k)) (fact 𝓤 (Φ r'))))))) (H.⇛ (Given_back d r (Unit {0}) tok ftrue w))
+        → (w : Val) → ent 𝓤 (H.⇛ (ex 𝓤 (λ (r' : d.row.Denot). sep 𝓤 (sep 𝓤 tok (sem 𝓛 (d.row.own_val r' (w ∷ [])))) (ex 𝓤 (λ (ws : Units k). sep 𝓤 (sem 𝓛 (trues k)) (fact 𝓤 (Φ r'))))))) (H.⇛ (GivenBack d r (Unit {0}) tok ftrue w))
     gives_data d tok k Φ r says w =
         qed 𝓛 (later (some (λ (r' : d.row.Denot). (raw tok ⊛ ‵ (d.row.own_val r' (w ∷ []))) ⊛ some (λ (ws : Units k). ‵ (trues k) ⊛ raw (fact 𝓤 (Φ r'))))) ∷ []) ∵ updating ! $ await ! tt $ pick ! (λ r'. split ! $ move ! (1 ∷ []) $ pick ! (λ ws. split ! $ drop ! $ heard ! (Φ r') (λ φ.
         split ! $ move ! (1 ∷ []) $ peeks ! d.row (Is d.row) (shows 𝓛 d.row) r' (w ∷ []) (λ is. at_once ! $ check ! (has d r' r w (says r' φ) is, tt) $ true ! $ keep ! (2 ∷ 0 ∷ []) $ done !))))
@@ -115,7 +115,7 @@ module _ {M : Type 1} {𝓤 : Ura M} (𝓛 : Logic 𝓤) where
     -- and of a slice before them: it says the last list, zs, which is as long as the list passed. The borrow that it hands back too is over with ν
     pub gives_lent : (d : Datum) (R : RattleType) {b o : ℕ} (ys zs : List R.Denot) (k : ℕ) (Φ : d.row.Denot → List R.Denot → Type 0) (r : d.row.Denot) → ((r' : d.row.Denot) (l : List R.Denot) → Φ r' l → (r' ≡ r) × (l ≡ zs))
         → (ν : ℕ) (δ : GName) (w : Val) → ent 𝓤 (H.⇛ (ex 𝓤 (λ (r' : d.row.Denot). sep 𝓤 (sep 𝓤 (Token (ν ∷ []) full_share) (sem 𝓛 (d.row.own_val r' (w ∷ [])))) (ex 𝓤 (λ (ws : List R.Denot × Units k). sep 𝓤 (sem 𝓛 (last R (ν ∷ []) b o ys k δ ws.0)) (fact 𝓤 (Φ r' ws.0)))))))
-        (H.⇛ (Given_back d r (length zs ≡ length ys) (Token (ν ∷ []) full_share) (finally R δ zs) w))
+        (H.⇛ (GivenBack d r (length zs ≡ length ys) (Token (ν ∷ []) full_share) (finally R δ zs) w))
     gives_lent d R {b} {o} ys zs k Φ r says ν δ w =
         qed 𝓛 (later (some (λ (r' : d.row.Denot). (raw (Token (ν ∷ []) full_share) ⊛ ‵ (d.row.own_val r' (w ∷ []))) ⊛ some (λ (ws : List R.Denot × Units k). ‵ (last R (ν ∷ []) b o ys k δ ws.0) ⊛ raw (fact 𝓤 (Φ r' ws.0))))) ∷ []) ∵
         updating ! $ await ! tt $ pick ! (λ r'. split ! $ move ! (1 ∷ []) $ pick ! (λ ws. split ! $ move ! (1 ∷ []) $ heard ! (Φ r' ws.0) (λ φ. fsplit ! $ fsplit ! $ fsplit ! $ rewrite ! 0 (λ (l : List R.Denot). ‵ (finally R δ l)) (says r' ws.0 φ).1 refl $ move ! (1 ∷ []) $ feq_l ! (λ len.
@@ -172,7 +172,7 @@ told {𝓛 = 𝓛} {K = K} {Γ = Γ} G e s = subst (λ (u : Val). Seq K 𝓛 Γ 
 module _ {M : Type 1} {𝓤 : Ura M} {𝓛 : Logic 𝓤} {K : Type 0} {Γ : List (Item 𝓤)} {E : Env 𝓤 𝓛.H} {C : Calls 𝓤 𝓛.H} {Λ : Loops 𝓤 𝓛.H} {q : Post 𝓤 𝓛.H} {p : Place} {f : Callee} {xs : List Operand} where
   open 𝓛 use {H, A}
 
-  pub calls_plain : K → FmC 𝓤 H 𝓛.laws C → {rest : Body} (c : Contract 𝓤) → Triple 𝓤 (C f) c → (x : c.Ghost) (d : Datum) (r : d.row.Denot) → ent 𝓤 (emp 𝓤) (c.pre x) → ((w : Val) → ent 𝓤 (c.post x w) (H.⇛ (Given_back 𝓛 d r (Unit {0}) (emp 𝓤) ftrue w)))
+  pub calls_plain : K → FmC 𝓤 H 𝓛.laws C → {rest : Body} (c : Contract 𝓤) → Triple 𝓤 (C f) c → (x : c.Ghost) (d : Datum) (r : d.row.Denot) → ent 𝓤 (emp 𝓤) (c.pre x) → ((w : Val) → ent 𝓤 (c.post x w) (H.⇛ (GivenBack 𝓛 d r (Unit {0}) (emp 𝓤) ftrue w)))
       → Opds K 𝓛 (raw (c.pre x) ∷ Γ) E xs (c.args x) → (Is d.row r (d.val r ∷ []) → Seq K 𝓛 Γ (lands C Λ E p (d.val r) rest q)) → Seq K 𝓛 Γ (runs C Λ E (seq (call f xs p) rest) q)
   calls_plain t fm {rest} c met x d r goes gives os k = use0 𝓛 (raw (c.pre x)) goes $ calls_at t fm c met x os (λ w. use1 𝓛 (later (given (Has d r w × Unit {0}) (raw (emp 𝓤) ⊛ ‵ ftrue))) (gives w) $ await t tt $ learn t (λ h. drop t $ told (λ v. lands C Λ E p v rest q) h.0.0 (k h.0.1)))
 

@@ -1,5 +1,4 @@
 -- `search` meets its contract: it is `search_file` in places of its own. Assumes nothing.
-use borrow.Author.Rules.{rules}
 use Rattle.desk.specs.Report.{found}
 use Rattle.desk.proofs.search.Goals as goal
 

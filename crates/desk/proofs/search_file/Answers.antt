@@ -1,5 +1,4 @@
 -- `search_file` meets its contract: what is found after a file is read, or its refusal. Assumes nothing.
-use borrow.Author.Rules.{rules}
 use Rattle.desk.proofs.Finding.{after_read, not_read}
 use Rattle.desk.proofs.search_file.Goals as goal
 

@@ -1,5 +1,4 @@
 -- `search_system` meets its contract: what is found after a start, or its refusal. Assumes nothing.
-use borrow.Author.Rules.{rules}
 use Rattle.desk.proofs.Finding.{after_start, not_started}
 use Rattle.desk.proofs.search_system.Goals as goal
 

@@ -2,7 +2,7 @@
 use mathlib.Core.Path.{◌∙◌}
 use Rattle.runs.specs.Lists.{listed}
 use Rattle.desk.specs.Lines.{told}
-use Rattle.desk.proofs.Fitting.{any_fit, at_front}
+use Rattle.desk.proofs.Fitting.{at_front}
 use Rattle.desk.proofs.tell.Goals as goal
 
 pub returns : goal.returns

@@ -1,9 +1,7 @@
 -- `add_row` meets its contract: both sums fit, and one or two numbers are stored. Assumes nothing.
 use mathlib.Core.Path.{◌≡◌}
 use native.Mathlib.Omega.{arith}
-use borrow.Author.Rules.{rules}
-use lib.ListN.{length-set}
-use Rattle.lines.proofs.Rows.{sum_fits_first, sum_fits_next, sum_one, sum_two}
+use Rattle.lines.proofs.Rows.{sum_one, sum_two}
 use Rattle.lines.proofs.add_row.Goals as goal
 
 pub returns-then-w-eq2 : goal.returns-then-w-eq2

@@ -1,11 +1,10 @@
 -- `each_block` meets its contract: one block more at a turn. Assumes nothing.
 use mathlib.Core.Path.{◌≡◌}
-use mathlib.Core.Logic.{⊎_elim}
 use native.Mathlib.Omega.{arith}
-use Prim.Native.Nat.{◌+◌, ◌*◌, ◌-◌, ◌≤◌}
+use Prim.Native.Nat.{◌+◌, ◌*◌}
 use Rattle.whole.specs.Half.{lower, upper}
 use Rattle.bernstein.proofs.Lines.{half_cong}
-use Rattle.lines.specs.Lines.{InBlocks, LinesCut}
+use Rattle.lines.specs.Lines.{InBlocks}
 use Rattle.lines.proofs.Rooms.{block_fits, half_ready, half_worked, at_count, narrow, narrowed}
 use Rattle.lines.proofs.Together.{no_block, next_block, more_blocks}
 use Rattle.lines.proofs.each_block.Goals as goal
@@ -28,15 +27,17 @@ pub loop-o-preserved : goal.loop-o-preserved
 loop-o-preserved c =
     let a = c in let s = a in let d = a.loop-o.o * ((s.args.n + 1) * s.args.inner) in
     elim c.if-inner-eq1.branch [
-      then-inner-eq1 w ↦ rw w.s-is (
-      omega arith,
-      more_blocks (omega arith) s.requires a.loop-o.invariant.1 (λ h b e same j l. half_cong s.args.n b e same h j l)
-          (half_worked s.args.up s.args.lo d (narrowed (let e : s.args.inner ≡ 1 = omega arith in e) w.lines.ensures)),
-    ) | else-inner-eq1 w ↦ rw w.s-is (
-      omega arith,
-      more_blocks (omega arith) s.requires a.loop-o.invariant.1 (λ h b e same j l. half_cong s.args.n b e same h j l)
-          (half_worked s.args.up s.args.lo d w.wide.ensures),
-    )]
+      | then-inner-eq1 w ↦ rw w.s-is (
+        omega arith,
+        more_blocks (omega arith) s.requires a.loop-o.invariant.1 (λ h b e same j l. half_cong s.args.n b e same h j l)
+            (half_worked s.args.up s.args.lo d (narrowed (let e : s.args.inner ≡ 1 = omega arith in e) w.lines.ensures)),
+      )
+      | else-inner-eq1 w ↦ rw w.s-is (
+        omega arith,
+        more_blocks (omega arith) s.requires a.loop-o.invariant.1 (λ h b e same j l. half_cong s.args.n b e same h j l)
+            (half_worked s.args.up s.args.lo d w.wide.ensures),
+      )
+    ]
 
 pub returns : goal.returns
 returns c =

@@ -1,10 +1,9 @@
 -- `lines` meets its contract: a stage for each entry, then the powers of two. Assumes nothing.
-use mathlib.Core.Path.{◌∙◌}
 use native.Mathlib.Omega.{arith}
-use Prim.Native.Nat.{◌+◌, ◌-◌, ◌≤◌}
+use Prim.Native.Nat.{◌≤◌}
 use Rattle.whole.specs.Half.{lower}
 use Rattle.lines.proofs.Rows.{row_le}
-use Rattle.lines.proofs.Stages.{Staged, no_stage, block, entries_below, sums_below, foot_row, stage, raised_below, all_stages}
+use Rattle.lines.proofs.Stages.{no_stage, block, entries_below, sums_below, foot_row, stage, raised_below, all_stages}
 use Rattle.lines.proofs.lines.Goals as goal
 
 pub sums-requires : goal.sums-requires

@@ -1,6 +1,6 @@
 -- `ones` meets its contract: at each degree it is that of `lines` at one line. Assumes nothing.
 use native.Mathlib.Omega.{arith}
-use Rattle.lines.proofs.Rooms.{ready_at, cut_at}
+use Rattle.lines.proofs.Rooms.{ready_at}
 use Rattle.lines.proofs.ones.Goals as goal
 
 pub lines-requires : goal.lines-requires

@@ -1,10 +1,9 @@
 -- `raise` meets its contract: a loop of rows, from row 1 on. Assumes nothing.
 use mathlib.Core.Logic.{inl}
 use native.Mathlib.Omega.{arith}
-use Prim.Native.Nat.{◌+◌, ◌-◌, ◌≤◌, ◌<◌}
-use Rattle.lines.specs.Inside.{raised}
+use Prim.Native.Nat.{◌≤◌}
 use Rattle.lines.proofs.Rows.{row_le}
-use Rattle.lines.proofs.Turns.{Turning, start, end}
+use Rattle.lines.proofs.Turns.{start, end}
 use Rattle.lines.proofs.Passes.{raised_none, raise_row, raise_turn}
 use Rattle.lines.proofs.raise.Goals as goal
 

@@ -1,10 +1,8 @@
 -- `scale_row` meets its contract: the products are asked to fit, and one or two numbers are stored. Assumes nothing.
 use mathlib.Core.Path.{◌≡◌, refl, ◌∙◌}
 use native.Mathlib.Omega.{arith}
-use borrow.Author.Rules.{rules}
-use lib.ListN.{length-set}
 use Rattle.whole.proofs.Machine.{back}
-use Rattle.lines.proofs.Rows.{first_small, scale_one, scale_two}
+use Rattle.lines.proofs.Rows.{scale_one, scale_two}
 use Rattle.lines.proofs.scale_row.Goals as goal
 
 pub returns-then-w-eq2 : goal.returns-then-w-eq2

@@ -1,9 +1,6 @@
 -- `spread` meets its contract: k steps, then one more. Assumes nothing.
-use mathlib.Core.Path.{◌≡◌, subst}
-use native.Mathlib.Omega.{arith}
-use Prim.Native.Nat.{ℕ, ◌-◌, ◌≤◌}
+use Prim.Native.Nat.{◌-◌, ◌≤◌}
 use Rattle.lines.specs.Lines.{Under, InPlace}
-use Rattle.lines.proofs.Passes.{no_step, one_step, step_ready}
 use Rattle.bernstein.specs.Numbers.{after}
 use Rattle.lines.proofs.spread.Given as goal
 

@@ -1,9 +1,8 @@
 -- `spread_block` meets its contract: one line more at a turn. Assumes nothing.
 use mathlib.Core.Path.{◌≡◌}
 use native.Mathlib.Omega.{arith}
-use Prim.Native.Nat.{◌-◌, ◌≤◌}
 use Rattle.bernstein.proofs.Lines.{after_cong}
-use Rattle.lines.specs.Lines.{Under, LinesSpread, only}
+use Rattle.lines.specs.Lines.{Under, only}
 use Rattle.lines.proofs.Rooms.{at_count}
 use Rattle.lines.proofs.Together.{no_line, next_lines, more_lines}
 use Rattle.lines.proofs.spread_block.Goals as goal

@@ -1,11 +1,6 @@
 -- `spread_block` meets its contract: one line more at a turn. Assumes nothing.
-use mathlib.Core.Path.{◌≡◌}
-use native.Mathlib.Omega.{arith}
 use Prim.Native.Nat.{◌-◌, ◌≤◌}
-use Rattle.bernstein.proofs.Lines.{after_cong}
-use Rattle.lines.specs.Lines.{Under, LinesSpread, only}
-use Rattle.lines.proofs.Rooms.{at_count}
-use Rattle.lines.proofs.Together.{no_line, next_lines, more_lines}
+use Rattle.lines.specs.Lines.{Under, LinesSpread}
 use Rattle.lines.proofs.spread_block.Given as goal
 
 abbrev pub invariant-loop-q : goal.invariant-loop-q

@@ -1,9 +1,7 @@
 -- `step` meets its contract: a loop of rows, from row n down to row k + 1. Assumes nothing.
 use native.Mathlib.Omega.{arith}
-use Prim.Native.Nat.{◌≤◌, ◌<◌}
-use Rattle.lines.specs.Inside.{stepped}
 use Rattle.lines.proofs.Rows.{row_le}
-use Rattle.lines.proofs.Turns.{Turning, start, end}
+use Rattle.lines.proofs.Turns.{start, end}
 use Rattle.lines.proofs.Passes.{step_room, step_rows, step_turn, step_end}
 use Rattle.lines.proofs.step.Goals as goal
 

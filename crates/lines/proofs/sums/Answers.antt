@@ -3,7 +3,7 @@ use mathlib.Core.Path.{refl}
 use mathlib.Core.Logic.{inl}
 use native.Mathlib.Omega.{arith}
 use Rattle.lines.proofs.Turns.{start, end}
-use Rattle.lines.proofs.Passes.{Summing, summed_last, sum_room, sum_rows, sum_turn}
+use Rattle.lines.proofs.Passes.{summed_last, sum_room, sum_rows, sum_turn}
 use Rattle.lines.proofs.sums.Goals as goal
 
 pub loop-i-init : goal.loop-i-init

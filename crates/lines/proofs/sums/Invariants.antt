@@ -1,9 +1,5 @@
 -- `sums` meets its contract: a loop of rows, from row j - 1 down. Assumes nothing.
-use mathlib.Core.Path.{refl}
-use mathlib.Core.Logic.{inl}
-use native.Mathlib.Omega.{arith}
-use Rattle.lines.proofs.Turns.{start, end}
-use Rattle.lines.proofs.Passes.{Summing, summed_last, sum_room, sum_rows, sum_turn}
+use Rattle.lines.proofs.Passes.{Summing}
 use Rattle.lines.proofs.sums.Given as goal
 
 abbrev pub invariant-loop-i : goal.invariant-loop-i

@@ -1,10 +1,10 @@
 -- `wide` meets its contract: two lines more at a turn, and at the end one more if the count is odd. Assumes nothing.
-use mathlib.Core.Path.{◌≡◌, ◌∙◌}
+use mathlib.Core.Path.{◌≡◌}
 use native.Mathlib.Omega.{arith}
-use Prim.Native.Nat.{◌+◌, ◌-◌, ◌≤◌}
+use Prim.Native.Nat.{◌+◌}
 use Rattle.whole.specs.Half.{lower, upper}
 use Rattle.bernstein.proofs.Lines.{half_cong}
-use Rattle.lines.specs.Lines.{Under, LinesCut}
+use Rattle.lines.specs.Lines.{Under}
 use Rattle.lines.proofs.Rooms.{half_ready, half_worked, at_count}
 use Rattle.lines.proofs.Together.{no_line, next_lines, more_lines}
 use Rattle.lines.proofs.wide.Goals as goal

@@ -1,5 +1,4 @@
 -- `power` meets its contract. Assumes nothing.
-use borrow.Author.Rules.{rules}
 use Rattle.boxes.proofs.Powers.{double}
 use Rattle.boxes.proofs.middle.power.Goals as goal
 

@@ -30,5 +30,5 @@ returns-in-Stopped c =
     let a = c.args in let s = c.in-Stopped.s in let p = c.put_stop-o in let n = c.least in let q = c.put_records in
     let f = fit a.t.now a.a s a.list.now n.result c.in-Stopped.is n.ensures (omega (arith, p.ensures.0, p.ensures.1.0)) (λ i. omega (arith, c.type_inv.list i)) c.requires in
     let j = joined a.t.now 0 (first_line s) (kept_lines (taken n.result a.list.now)) f p.result p.new.t (omega (arith, p.ensures.0)) p.ensures.1.1
-        q.result q.new.t q.ensures.0 q.ensures.1 in
+    q.result q.new.t q.ensures.0 q.ensures.1 in
     rw (told_stop s a.list.now n.result n.ensures a.a c.in-Stopped.is) (omega (arith, j.0), j.1)

@@ -3,7 +3,7 @@ use Prim.Native.Nat.{ℕ, ◌+◌, ◌≤◌, ◌<◌}
 use mathlib.Core.Path.{◌≡◌}
 use mathlib.Core.List.{List, [], ◌∷◌, ◌++◌, map}
 use native.Mathlib.Omega.{arith}
-use lib.ListN.{length, get_or, set, drop, length-set}
+use lib.ListN.{length, get_or, set, drop}
 use Rattle.file.proofs.Putting.{Putting, putting_start, putting_same, putting_fits, putting_turn, putting_over}
 use Rattle.desk.proofs.Stepping.{byte_fits, byte_turn, next_number, no_number}
 use Rattle.desk.specs.Text.{decimal, ended}

@@ -1,11 +1,8 @@
 -- `put_rest` meets its contract: at each turn the numbers before i are put. Assumes nothing.
-use Prim.Native.Nat.{ℕ, ◌+◌, ◌≤◌, ◌<◌, ◌-◌}
-use mathlib.Core.Path.{◌≡◌, refl, sym, ◌∙◌}
-use mathlib.Core.List.{List, [], ◌∷◌, ◌++◌, map}
-use native.Mathlib.Omega.{arith}
-use lib.ListN.{length, get_or, set, drop, length-set}
-use Rattle.file.proofs.Putting.{Putting, putting_start, putting_same, putting_fits, putting_turn, putting_over}
-use Rattle.desk.proofs.Stepping.{byte_fits, byte_turn, next_number, no_number}
+use Prim.Native.Nat.{◌≤◌, ◌-◌}
+use mathlib.Core.List.{map}
+use lib.ListN.{length, drop}
+use Rattle.file.proofs.Putting.{Putting}
 use Rattle.desk.specs.Text.{decimal, ended}
 use Rattle.desk.proofs.text.put_rest.Given as goal
 

@@ -1,7 +1,6 @@
 -- `put_word` meets its contract: at each turn the bytes before i are put. Assumes nothing.
 use native.Mathlib.Omega.{arith}
-use mathlib.Core.List.{[]}
-use Rattle.file.proofs.Putting.{putting_start, putting_same, putting_over}
+use Rattle.file.proofs.Putting.{putting_start, putting_over}
 use Rattle.desk.proofs.Stepping.{byte_fits, byte_turn, next_byte, no_byte}
 use Rattle.desk.proofs.text.put_word.Goals as goal
 

@@ -1,11 +1,7 @@
 -- `put_word` meets its contract: at each turn the bytes before i are put. Assumes nothing.
-use Prim.Native.Nat.{ℕ, ◌+◌, ◌≤◌, ◌-◌}
-use mathlib.Core.Path.{◌≡◌}
-use mathlib.Core.List.{List, [], ◌∷◌}
-use native.Mathlib.Omega.{arith}
-use lib.ListN.{length, get_or, drop}
-use Rattle.file.proofs.Putting.{Putting, putting_start, putting_same, putting_over}
-use Rattle.desk.proofs.Stepping.{byte_fits, byte_turn, next_byte, no_byte}
+use Prim.Native.Nat.{◌≤◌, ◌-◌}
+use lib.ListN.{length, drop}
+use Rattle.file.proofs.Putting.{Putting}
 use Rattle.desk.proofs.text.put_word.Given as goal
 
 abbrev pub invariant-loop-i : goal.invariant-loop-i

@@ -1,11 +1,7 @@
 -- `all_have` meets its contract: a loop of tests, each of which is `two_have`, and `has` at the end. Assumes nothing.
-use native.Mathlib.Omega.{arith}
-use borrow.Author.Rules.{rules}
-use Prim.Native.Nat.{◌+◌, ◌-◌, ◌≤◌}
-use Rattle.whole.proofs.Machine.{back}
+use Prim.Native.Nat.{◌-◌, ◌≤◌}
 use Rattle.bernstein.specs.Points.{Has}
 use Rattle.lines.specs.Sides.{Each, sign}
-use Rattle.lines.proofs.Parts.{none, joined, last, broken, passed, failed}
 use Rattle.lines.proofs.sides.all_have.Given as goal
 
 abbrev pub invariant-loop-i : goal.invariant-loop-i

@@ -1,13 +1,8 @@
 -- `all_within` meets its contract: a loop of tests, each of which is `two_within`, and `within` at the end. Assumes nothing.
 use native.Mathlib.Omega.{arith}
-use borrow.Author.Rules.{rules}
-use Prim.Native.Nat.{◌+◌, ◌-◌, ◌≤◌}
-use lib.IntN.{nat_abs}
-use mir.Syntax.{w64}
-use mir.Val.{to_z}
+use Prim.Native.Nat.{◌+◌}
 use mir.Facts.{to_z-of_z}
 use Rattle.whole.proofs.Machine.{back}
-use Rattle.lines.specs.Sides.{Each, AtMost}
 use Rattle.lines.proofs.Parts.{none, joined, last, broken, passed, failed}
 use Rattle.lines.proofs.sides.all_within.Goals as goal
 

@@ -1,7 +1,5 @@
 -- `malachirp_run` meets its contract: by the cases of what `run` answers. Assumes nothing.
-use mathlib.Core.Path.{◌≡◌, refl, sym, ◌∙◌}
-use borrow.Author.Rules.{rules}
-use Rattle.malachirp.specs.Codes.{head_from, state_from}
+use mathlib.Core.Path.{refl, sym, ◌∙◌}
 use Rattle.malachirp.proofs.Unchanged.{run_refused}
 use Rattle.malachirp.proofs.running.malachirp_run.Goals as goal
 

@@ -1,7 +1,6 @@
 -- `malachirp_sizes` meets its contract: by the head's check; within limits the store's length fits. Assumes nothing.
-use mathlib.Core.Path.{refl, sym, ◌∙◌}
+use mathlib.Core.Path.{sym, ◌∙◌}
 use native.Mathlib.Omega.{arith}
-use borrow.Author.Rules.{rules}
 use Rattle.system.proofs.Heads.{checked_tells, slots_high}
 use Rattle.waiting.proofs.Slotting.{needed_is}
 use Rattle.malachirp.proofs.starts.malachirp_sizes.Goals as goal

@@ -1,7 +1,5 @@
 -- `malachirp_visit` meets its contract: by the cases of what `visit` answers. Assumes nothing.
-use mathlib.Core.Path.{◌≡◌, refl, sym, ◌∙◌}
-use borrow.Author.Rules.{rules}
-use Rattle.malachirp.specs.Codes.{head_from, state_from}
+use mathlib.Core.Path.{refl, sym, ◌∙◌}
 use Rattle.malachirp.proofs.Unchanged.{visit_unmade}
 use Rattle.malachirp.proofs.visits.malachirp_visit.Goals as goal
 

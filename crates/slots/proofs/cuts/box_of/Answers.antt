@@ -1,5 +1,4 @@
 -- `box_of` meets its contract: counts and positions of an allowed box fit. Assumes nothing.
-use mathlib.Core.Path.{refl}
 use native.Mathlib.Omega.{arith}
 use Rattle.bernstein.specs.Three.{first, second, third}
 use Rattle.slots.proofs.Laying.{position_high}

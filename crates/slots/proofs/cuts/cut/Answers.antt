@@ -2,7 +2,6 @@
 use mathlib.Core.Path.{◌≡◌, sym, ap, ◌∙◌}
 use mathlib.Core.List.{List}
 use native.Mathlib.Omega.{arith}
-use borrow.Author.Rules.{rules}
 use Prim.Native.Nat.{◌+◌, ◌<◌}
 use lib.IntN.{ℤ}
 use lib.ListN.{length, take, length-take, length-drop}
@@ -14,7 +13,7 @@ use Rattle.system.specs.declared.head.Head.{Head}
 use Rattle.boxes.specs.declared.half.Box.{Box}
 use Rattle.boxes.specs.declared.half.Direction.{Direction}
 use Rattle.slots.specs.Slots.{box_in, numbers, SlotFits}
-use Rattle.slots.proofs.Laying.{front_spans, front_box, front_cuts, Laid, laid, half_value}
+use Rattle.slots.proofs.Laying.{front_spans, front_box, front_cuts, laid, half_value}
 use Rattle.slots.proofs.Cutting.{cut_ready, as_blocks, cut_halves}
 use Rattle.slots.proofs.cuts.cut.Goals as goal
 
@@ -47,7 +46,7 @@ blocks-requires c =
     let s = c.args in
     let b = box_is s.h s.two.now c.box_of-b.result c.requires.0 c.box_of-b.ensures in
     let y = laid s.h (direction s.r) s.two.now c.requires.1 (half_value upper (direction s.r) c.half_of-2.ensures b) (half_value lower (direction s.r) c.half_of.ensures b)
-        (rw c.width-w.ensures at c.put_box.ensures) (rw c.width-w.ensures at c.put_box-2.ensures) in
+    (rw c.width-w.ensures at c.put_box.ensures) (rw c.width-w.ensures at c.put_box-2.ensures) in
     cut_ready s.h (direction s.r) c.width-w.ensures c.blocks_in.ensures c.stride_in.ensures c.degree_in.ensures
     c.requires.0.limits (numbers_long s.h s.two.now c.requires.1) c.requires.3 y
 
@@ -56,5 +55,5 @@ returns c =
     let s = c.args in
     let b = box_is s.h s.two.now c.box_of-b.result c.requires.0 c.box_of-b.ensures in
     let y = laid s.h (direction s.r) s.two.now c.requires.1 (half_value upper (direction s.r) c.half_of-2.ensures b) (half_value lower (direction s.r) c.half_of.ensures b)
-        (rw c.width-w.ensures at c.put_box.ensures) (rw c.width-w.ensures at c.put_box-2.ensures) in
+    (rw c.width-w.ensures at c.put_box.ensures) (rw c.width-w.ensures at c.put_box-2.ensures) in
     cut_halves s.h (direction s.r) y (as_blocks s.h (direction s.r) c.width-w.ensures c.blocks_in.ensures c.stride_in.ensures c.degree_in.ensures c.blocks-2.ensures)

@@ -1,9 +1,5 @@
 -- `can_cut` meets its contract: the test of the part from 6 on, by the limit of the direction's degree. Assumes nothing.
-use native.Mathlib.Omega.{arith}
-use borrow.Author.Rules.{rules}
 use Rattle.whole.proofs.Machine.{back}
-use Rattle.whole.proofs.Order.{nonneg_pos}
-use Rattle.boxes.specs.Boxes.{direction}
 use Rattle.slots.proofs.Tests.{within_rest}
 use Rattle.slots.proofs.Looking.{slot_long}
 use Rattle.slots.proofs.looks.can_cut.Goals as goal

@@ -1,6 +1,5 @@
 -- `choose` meets its contract: the better of the three, one after the other. Assumes nothing.
 use mathlib.Core.Path.{refl}
-use borrow.Author.Rules.{rules}
 use Rattle.slots.specs.Rules.{chosen}
 use Rattle.slots.proofs.looks.choose.Goals as goal
 

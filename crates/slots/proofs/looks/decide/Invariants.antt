@@ -1,12 +1,6 @@
 -- `decide` meets its contract: polynomials 1 to p are mixed, and the side of the next one answers or goes on. Assumes nothing.
-use mathlib.Core.Path.{◌≡◌, sym, subst}
-use native.Mathlib.Omega.{arith}
-use borrow.Author.Rules.{rules}
-use Prim.Native.Nat.{◌+◌, ◌-◌}
-use Rattle.lines.specs.Sides.{SideIs}
-use Rattle.lines.specs.declared.sides.Side.{Side}
-use Rattle.lines.specs.declared.sides.Side.TheVariants.{Above, Below, Mixed}
-use Rattle.slots.proofs.Looking.{Deciding, deciding_start, deciding_end, deciding_on, turn, part_fits}
+use Prim.Native.Nat.{◌-◌}
+use Rattle.slots.proofs.Looking.{Deciding}
 use Rattle.slots.proofs.looks.decide.Given as goal
 
 abbrev pub invariant-loop-p : goal.invariant-loop-p

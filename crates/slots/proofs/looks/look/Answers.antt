@@ -1,9 +1,6 @@
 -- `look` meets its contract: the decision, and where there is none, the other steps. Assumes nothing.
-use mathlib.Core.Path.{◌≡◌, sym, ap, ◌∙◌}
+use mathlib.Core.Path.{sym, ap, ◌∙◌}
 use Prim.Native.Nat.{ℕ}
-use Rattle.system.specs.declared.head.Head.{Head}
-use Rattle.system.specs.Heads.{degrees}
-use Rattle.bernstein.specs.Places.{size}
 use Rattle.system.proofs.Heads.{size_low}
 use Rattle.slots.specs.declared.Decision.{Decision}
 use Rattle.slots.specs.Slots.{numbers}

@@ -1,6 +1,5 @@
 -- `all_within` meets its contract: the test of the part that is the whole. Assumes nothing.
 use native.Mathlib.Omega.{arith}
-use borrow.Author.Rules.{rules}
 use mir.Facts.{to_z-of_z}
 use Rattle.slots.proofs.Tests.{within_rest}
 use Rattle.slots.proofs.numbers.all_within.Goals as goal

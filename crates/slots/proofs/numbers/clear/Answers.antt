@@ -1,11 +1,10 @@
 -- `clear` meets its contract: one zero more at each turn. Assumes nothing.
-use mathlib.Core.Path.{◌≡◌, refl, ap, ◌∙◌}
+use mathlib.Core.Path.{refl, ap, ◌∙◌}
 use mathlib.Core.List.{List}
-use Prim.Native.Nat.{◌-◌, ◌≤◌}
 use native.Mathlib.Omega.{arith}
 use lib.IntN.{ℤ, pos}
-use lib.ListN.{length, set, length-set}
-use Rattle.slots.proofs.Tests.{cleared, cleared_on, cleared_end}
+use lib.ListN.{set, length-set}
+use Rattle.slots.proofs.Tests.{cleared_on, cleared_end}
 use Rattle.slots.proofs.numbers.clear.Goals as goal
 
 pub loop-i-preserved : goal.loop-i-preserved

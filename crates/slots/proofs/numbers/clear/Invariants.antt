@@ -1,11 +1,8 @@
 -- `clear` meets its contract: one zero more at each turn. Assumes nothing.
-use mathlib.Core.Path.{◌≡◌, refl, ap, ◌∙◌}
-use mathlib.Core.List.{List}
+use mathlib.Core.Path.{◌≡◌}
 use Prim.Native.Nat.{◌-◌, ◌≤◌}
-use native.Mathlib.Omega.{arith}
-use lib.IntN.{ℤ, pos}
-use lib.ListN.{length, set, length-set}
-use Rattle.slots.proofs.Tests.{cleared, cleared_on, cleared_end}
+use lib.ListN.{length}
+use Rattle.slots.proofs.Tests.{cleared}
 use Rattle.slots.proofs.numbers.clear.Given as goal
 
 abbrev pub invariant-loop-i : goal.invariant-loop-i

@@ -1,6 +1,5 @@
 -- `in_range` meets its contract: the test of a part that starts at 0. Assumes nothing.
 use native.Mathlib.Omega.{arith}
-use borrow.Author.Rules.{rules}
 use Rattle.slots.proofs.Tests.{within_part}
 use Rattle.slots.proofs.numbers.in_range.Goals as goal
 

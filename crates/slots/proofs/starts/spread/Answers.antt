@@ -1,5 +1,4 @@
 -- `spread` meets its contract: the steps along all lines of the blocks. Assumes nothing.
-use borrow.Author.Rules.{rules}
 use Rattle.boxes.specs.Boxes.{direction}
 use Rattle.slots.proofs.Spreading.{spread_ready, spread_made}
 use Rattle.slots.proofs.starts.spread.Goals as goal

@@ -1,11 +1,7 @@
 -- `start` meets its contract: the unit box, the weighted coefficients, and the steps along the third, the second and the first direction. Assumes nothing.
-use mathlib.Core.Path.{◌≡◌}
-use mathlib.Core.List.{◌++◌}
 use borrow.Author.Rules.{rules}
 use Rattle.bernstein.specs.Three.{first, second, third}
-use Rattle.bernstein.specs.Numbers.{unit}
-use Rattle.slots.specs.Slots.{box_numbers}
-use Rattle.slots.proofs.Spreading.{staged, stage_ready, weighed, spread_on, start_is}
+use Rattle.slots.proofs.Spreading.{stage_ready, weighed, spread_on, start_is}
 use Rattle.slots.proofs.Weighing.{table_weighs}
 use Rattle.slots.proofs.starts.start.Goals as goal
 

@@ -2,13 +2,11 @@
 use mathlib.Core.Path.{◌∙◌}
 use native.Mathlib.Omega.{arith}
 use native.Mathlib.Nat as NatL
-use borrow.Author.Rules.{rules}
-use Prim.Native.Nat.{◌+◌, ◌-◌, ◌<◌}
-use lib.ListN.{length}
+use Prim.Native.Nat.{◌<◌}
 use Rattle.system.specs.Heads.{places}
 use Rattle.system.proofs.Heads.{size_low, places_high}
 use Rattle.whole.proofs.Machine.{back}
-use Rattle.slots.proofs.Weighing.{Weighing, weighing_start, weighing_on, weighing_end, heavy_made}
+use Rattle.slots.proofs.Weighing.{weighing_start, weighing_on, weighing_end, heavy_made}
 use Rattle.slots.proofs.Spreading.{coefficient_high}
 use Rattle.slots.proofs.starts.weigh.Goals as goal
 

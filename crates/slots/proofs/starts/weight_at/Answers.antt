@@ -1,12 +1,7 @@
 -- `weight_at` meets its contract: the weights of the index of p, one in each direction. Assumes nothing.
-use mathlib.Core.Path.{refl}
-use native.Mathlib.Omega.{arith}
-use native.Mathlib.Nat as NatL
-use borrow.Author.Rules.{rules}
 use Rattle.bernstein.specs.Three.{first, second, third}
 use Rattle.bernstein.proofs.Indices.{index_upto}
 use Rattle.system.specs.Heads.{degrees}
-use Rattle.slots.proofs.Weighing.{three_high}
 use Rattle.slots.proofs.starts.weight_at.Goals as goal
 
 pub weight_of-a-requires : goal.weight_of-a-requires

@@ -1,7 +1,5 @@
 -- `weight_of` meets its contract: the table that is lent has the weights. Assumes nothing.
-use native.Mathlib.Omega.{arith}
-use borrow.Author.Rules.{rules}
-use Rattle.slots.proofs.Weighing.{weight_high, row_high}
+use Rattle.slots.proofs.Weighing.{weight_high}
 use Rattle.slots.proofs.starts.weight_of.Goals as goal
 
 pub returns : goal.returns

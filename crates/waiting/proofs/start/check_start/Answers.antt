@@ -4,7 +4,6 @@ use Prim.Native.Nat.{ℕ}
 use mathlib.Core.Path.{refl, ap, ◌∙◌}
 use native.Mathlib.Omega.{arith}
 use borrow.Author.Tests.{lt-leb, le-leb}
-use borrow.Author.Rules.{rules}
 use lib.ListN.{take, length}
 use Rattle.system.specs.Heads.{places}
 use Rattle.system.proofs.Heads.{head_says}

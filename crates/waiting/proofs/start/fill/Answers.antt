@@ -1,10 +1,5 @@
 -- `fill` meets its contract. Assumes nothing.
-use Prim.Native.Nat.{◌*◌}
-use mathlib.Core.Path.{◌≡◌, refl}
-use native.Mathlib.Omega.{arith}
-use borrow.Author.Rules.{rules}
-use Rattle.system.specs.Heads.{depth, width}
-use Rattle.waiting.proofs.Starting.{filled_inside, filled}
+use Rattle.waiting.proofs.Starting.{filled}
 use Rattle.waiting.proofs.start.fill.Goals as goal
 
 pub returns : goal.returns

@@ -1,6 +1,5 @@
 -- `start` meets its contract. Assumes nothing.
-use mathlib.Core.Path.{refl, sym, ◌∙◌}
-use borrow.Author.Rules.{rules}
+use mathlib.Core.Path.{sym, ◌∙◌}
 use Rattle.waiting.proofs.Starting.{start_passes}
 use Rattle.waiting.proofs.start.start.Goals as goal
 

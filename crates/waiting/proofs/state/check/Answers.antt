@@ -3,7 +3,6 @@ use mathlib.Core.Bool.{not}
 use mathlib.Core.Path.{ap}
 use mathlib.Core.Path.{refl, ◌∙◌}
 use borrow.Author.Tests.{leb-true, lt-leb, le-leb}
-use borrow.Author.Rules.{rules}
 use Rattle.system.proofs.Heads.{head_says}
 use Rattle.waiting.specs.States.{judged_by}
 use Rattle.waiting.proofs.Judging.{counts_inside}

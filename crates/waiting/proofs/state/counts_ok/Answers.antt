@@ -3,7 +3,6 @@ use Prim.Native.Nat.{suc}
 use mathlib.Core.Path.{refl}
 use native.Mathlib.Omega.{arith}
 use borrow.Author.Tests.{lt-leb, le-leb}
-use borrow.Author.Rules.{rules}
 use Rattle.system.specs.Heads.{depth}
 use Rattle.waiting.specs.States.{counts_ok}
 use Rattle.waiting.proofs.state.counts_ok.Goals as goal

@@ -3,7 +3,6 @@ use Prim.Native.Nat.{◌≤◌}
 use mathlib.Core.Path.{refl}
 use native.Mathlib.Omega.{arith}
 use borrow.Author.Tests.{eq-eqb, ne_eqb}
-use borrow.Author.Rules.{rules}
 use Rattle.waiting.specs.Steps.{due}
 use Rattle.waiting.proofs.Turning.{top_inside, top_fits}
 use Rattle.waiting.proofs.step.before_visit.Goals as goal

@@ -1,8 +1,5 @@
 -- `make` meets its contract. Assumes nothing.
-use Prim.Native.Nat.{◌<◌}
 use mathlib.Core.Path.{refl, ◌∙◌}
-use native.Mathlib.Omega.{arith}
-use borrow.Author.Rules.{rules}
 use Rattle.waiting.proofs.Becoming.{moves_dropped, moves_kept, moves_cut}
 use Rattle.waiting.proofs.step.make.Goals as goal
 

@@ -1,6 +1,5 @@
 -- `step` meets its contract. Assumes nothing.
 use mathlib.Core.Path.{◌∙◌}
-use borrow.Author.Rules.{rules}
 use Rattle.waiting.proofs.Becoming.{stop_cursor, stop_store, may_make, made}
 use Rattle.waiting.proofs.step.step.Goals as goal
 

@@ -1,6 +1,5 @@
 -- `step_seen` meets its contract. Assumes nothing.
 use mathlib.Core.Path.{◌∙◌}
-use borrow.Author.Rules.{rules}
 use Rattle.waiting.proofs.Becoming.{stop_cursor, stop_store, stop_seen, may_make, made, visit_seen}
 use Rattle.waiting.proofs.step.step_seen.Goals as goal
 

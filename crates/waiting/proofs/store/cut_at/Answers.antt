@@ -2,7 +2,6 @@
 use mathlib.Core.List.{◌++◌, List}
 use mathlib.Core.Path.{ap, ◌∙◌}
 use native.Mathlib.Omega.{arith}
-use borrow.Author.Rules.{rules}
 use lib.IntN.{ℤ}
 use Rattle.whole.specs.Half.{lower, upper}
 use Rattle.system.specs.Heads.{width}
@@ -10,7 +9,7 @@ use Rattle.boxes.specs.Boxes.{direction}
 use Rattle.slots.specs.Slots.{half_slot}
 use Rattle.slots.proofs.Builds.{half_slot_length}
 use Rattle.search.specs.Lent.{slot}
-use Rattle.waiting.proofs.Slotting.{two_first, two_length, two_back}
+use Rattle.waiting.proofs.Slotting.{two_first, two_back}
 use Rattle.waiting.proofs.store.cut_at.Goals as goal
 
 pub returns : goal.returns

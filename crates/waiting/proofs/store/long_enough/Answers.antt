@@ -1,7 +1,5 @@
 -- `long_enough` meets its contract. Assumes nothing.
-use mathlib.Core.Path.{refl}
 use native.Mathlib.Omega.{arith}
-use borrow.Author.Rules.{rules}
 use Rattle.system.proofs.Heads.{slots_high}
 use Rattle.waiting.proofs.Slotting.{needed_is}
 use Rattle.waiting.proofs.store.long_enough.Goals as goal

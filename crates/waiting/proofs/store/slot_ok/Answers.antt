@@ -2,7 +2,6 @@
 use mathlib.Core.Bool.{not}
 use mathlib.Core.Path.{refl, ap, ◌∙◌}
 use native.Mathlib.Omega.{arith}
-use borrow.Author.Rules.{rules}
 use Rattle.bernstein.specs.Three.{first, second, third}
 use Rattle.slots.specs.Slots.{at}
 use Rattle.slots.specs.Rules.{every, within}

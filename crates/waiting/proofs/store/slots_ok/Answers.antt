@@ -1,6 +1,6 @@
 -- `slots_ok` meets its contract. Assumes nothing.
 use mathlib.Core.Bool.{not}
-use Prim.Native.Nat.{ℕ, ◌≤◌, ◌-◌}
+use Prim.Native.Nat.{ℕ}
 use mathlib.Core.Bool.{true}
 use mathlib.Core.Path.{◌≡◌, refl, sym, ap, ◌∙◌, subst}
 use native.Mathlib.Numerals.{add-one}

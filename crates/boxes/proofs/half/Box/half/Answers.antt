@@ -1,12 +1,9 @@
 -- `Box::half` meets its contract: the tests pick the answer. Assumes nothing.
 use mathlib.Core.Bool.{◌&&◌}
 use mathlib.Core.Path.{sym, ap, ap₂, ◌∙◌}
-use borrow.Author.Rules.{rules}
 use Rattle.bernstein.specs.Three.{Direction}
 use Rattle.boxes.proofs.Halves.{half_asked, half_outside}
-use Rattle.system.proofs.Says.{and_left}
-use Rattle.boxes.specs.Boxes.{box_ok, half_at, half_in}
-use Rattle.system.specs.Directions.{between}
+use Rattle.boxes.specs.Boxes.{half_at, half_in}
 use Rattle.boxes.proofs.half.Box.half.Goals as goal
 
 pub returns-then-both : goal.returns-then-both

@@ -1,7 +1,6 @@
 -- `Box::half_in` meets its contract: the part with one cut more is the half. Assumes nothing.
 use mathlib.Core.Path.{sym, ap, ◌∙◌}
 use native.Mathlib.Omega.{arith}
-use borrow.Author.Rules.{rules}
 use Rattle.boxes.proofs.Halves.{half_child, half_deepest, part_cuts, part_small, half_with}
 use Rattle.boxes.specs.Boxes.{direction, half_at}
 use Rattle.boxes.specs.declared.half.Box.{Box}

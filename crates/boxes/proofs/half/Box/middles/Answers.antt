@@ -1,10 +1,7 @@
 -- `Box::middles` meets its contract: each direction of an allowed box has its two doubles. Assumes nothing.
 use mathlib.Core.Path.{sym, ◌∙◌}
-use borrow.Author.Rules.{rules}
-use borrow.Author.Tests.{not-true, not-false}
 use Rattle.bernstein.specs.Three.{first, second, third}
 use Rattle.boxes.proofs.Halves.{part_within}
-use Rattle.boxes.specs.declared.middle.Placed.{Placed}
 use Rattle.boxes.proofs.half.Box.middles.Goals as goal
 
 pub interval-a-requires : goal.interval-a-requires

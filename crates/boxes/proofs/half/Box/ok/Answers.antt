@@ -1,6 +1,5 @@
 -- `Box::ok` meets its contract. Assumes nothing.
 use mathlib.Core.Path.{refl, ◌∙◌}
-use borrow.Author.Rules.{rules}
 use Rattle.boxes.specs.Boxes.{box_ok}
 use Rattle.boxes.proofs.half.Box.ok.Goals as goal
 

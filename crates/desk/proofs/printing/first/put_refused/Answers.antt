@@ -1,13 +1,11 @@
 -- `put_refused` meets its contract: two words and two numbers, one behind the other. Assumes nothing.
-use mathlib.Core.Path.{◌≡◌}
 use mathlib.Core.List.{List, [], ◌∷◌, ◌++◌}
 use Prim.Native.Nat.{ℕ, ◌+◌, ◌^◌, ◌<◌, ◌≤◌}
 use native.Mathlib.Omega.{arith}
-use borrow.Author.Rules.{rules}
 use lib.ListN.{length}
 use Rattle.desk.specs.Text.{decimal, ended, line}
 use Rattle.desk.proofs.Joining.{fits_b, fits_c, fits_d, all_four}
-use Rattle.desk.specs.Lines.{refused, at, refused_line}
+use Rattle.desk.specs.Lines.{refused, at}
 use Rattle.desk.proofs.Sizes.{refused_short}
 use Rattle.desk.proofs.printing.first.put_refused.Goals as goal
 

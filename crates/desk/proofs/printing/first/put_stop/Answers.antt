@@ -1,9 +1,7 @@
 -- `put_stop` meets its contract: the word, and the counts behind it. Assumes nothing.
-use mathlib.Core.Path.{◌≡◌}
 use mathlib.Core.List.{List, [], ◌∷◌, ◌++◌}
 use Prim.Native.Nat.{ℕ, ◌+◌, ◌^◌, ◌<◌, ◌≤◌}
 use native.Mathlib.Omega.{arith}
-use borrow.Author.Rules.{rules}
 use lib.ListN.{length}
 use Rattle.boxes.specs.declared.visit.Word.{Word}
 use Rattle.desk.specs.Text.{decimal, ended, line}

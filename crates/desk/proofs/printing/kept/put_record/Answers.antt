@@ -1,8 +1,8 @@
 -- `put_record` meets its contract: the first number, and the others behind it. Assumes nothing.
 use mathlib.Core.Path.{◌≡◌, sym, ap, ◌∙◌}
-use mathlib.Core.List.{List, ◌∷◌, ◌++◌, map}
+use mathlib.Core.List.{List, ◌++◌, map}
 use Prim.Native.Nat.{ℕ}
-use lib.ListN.{length, drop, get_or}
+use lib.ListN.{drop, get_or}
 use Rattle.runs.specs.Lists.{seven, first}
 use Rattle.desk.specs.Text.{decimal, ended, line}
 use Rattle.desk.proofs.Joining.{first_fits, second_fits, joined}

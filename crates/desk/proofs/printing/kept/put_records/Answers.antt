@@ -1,10 +1,10 @@
 -- `put_records` meets its contract: at each turn the records before i are put. Assumes nothing.
-use Prim.Native.Nat.{ℕ, ◌+◌, ◌*◌, ◌-◌, ◌≤◌, ◌<◌}
-use mathlib.Core.Path.{◌≡◌, subst}
-use mathlib.Core.List.{List, [], ◌++◌}
+use Prim.Native.Nat.{ℕ, ◌+◌, ◌*◌, ◌-◌, ◌<◌}
+use mathlib.Core.Path.{subst}
+use mathlib.Core.List.{List, ◌++◌}
 use native.Mathlib.Omega.{arith}
-use lib.ListN.{length, drop}
-use Rattle.file.proofs.Putting.{Putting, putting_start, putting_same, putting_fits, putting_turn, putting_over}
+use lib.ListN.{drop}
+use Rattle.file.proofs.Putting.{Putting, putting_start, putting_fits, putting_turn, putting_over}
 use Rattle.runs.specs.Lists.{first, taken}
 use Rattle.desk.specs.Lines.{kept_line, kept_lines}
 use Rattle.desk.proofs.Lists.{next_lines, all_lines, no_lines}

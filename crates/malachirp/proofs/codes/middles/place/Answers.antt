@@ -1,6 +1,5 @@
 -- `place` meets its contract: a count of cuts above 10 is refused whether or not it fits a byte. Assumes nothing.
 use mathlib.Core.Path.{sym, ◌∙◌}
-use borrow.Author.Rules.{rules}
 use Rattle.bernstein.specs.Three.{first, second, third}
 use Rattle.runs.specs.Tables.{box_of}
 use Rattle.runs.specs.Lists as Lists

@@ -1,8 +1,6 @@
 -- `put` meets its contract. Assumes nothing.
-use borrow.Author.Rules.{rules}
 use native.Mathlib.Numerals.{unary_clauses}
 use native.Mathlib.Omega.{arith}
-use lib.ListN.{length-set}
 use Rattle.runs.proofs.Lists.{written, unwritten}
 use Rattle.runs.proofs.plain.list.put.Goals as goal
 

@@ -1,16 +1,10 @@
 -- `run` meets its contract. Assumes nothing.
-use Prim.Native.Nat.{◌+◌}
 use mathlib.Core.Path.{◌∙◌}
 use native.Mathlib.Omega.{arith}
 use borrow.Author.Rules.{rules}
-use lib.ListN.{length}
-use Rattle.waiting.specs.Cells.{boxed}
-use Rattle.waiting.specs.Runs.{way, went}
-use Rattle.waiting.proofs.Driving.{turns_left}
-use Rattle.runs.specs.Lists.{listed}
 use Rattle.runs.proofs.Lists.{length_listed}
 use Rattle.runs.proofs.Opening.{opens}
-use Rattle.runs.proofs.Going.{Going, going, going_length, may_step, fewer, goes_on, stopped}
+use Rattle.runs.proofs.Going.{going, may_step, fewer, goes_on, stopped}
 use Rattle.runs.proofs.plain.runs.run.Goals as goal
 
 pub loop-c-init : goal.loop-c-init

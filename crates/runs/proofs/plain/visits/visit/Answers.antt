@@ -1,7 +1,6 @@
 -- `visit` meets its contract. Assumes nothing.
 use mathlib.Core.Path.{◌∙◌}
 use native.Mathlib.Omega.{arith}
-use borrow.Author.Rules.{rules}
 use Rattle.runs.proofs.Lists.{length_listed}
 use Rattle.runs.proofs.Opening.{opens}
 use Rattle.runs.proofs.Seeing.{may_see, saw, saw_nothing}

@@ -1,6 +1,5 @@
 -- `Head::ok` meets its contract: the tests in the order of `head_ok`. Assumes nothing.
 use mathlib.Core.Path.{refl, ◌∙◌}
-use borrow.Author.Rules.{rules}
 use Rattle.system.specs.Heads.{head_ok}
 use Rattle.system.proofs.head.Head.ok.Goals as goal
 

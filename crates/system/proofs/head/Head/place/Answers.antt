@@ -1,10 +1,6 @@
 -- `Head::place` meets its contract: of bytes, no sum and no product wraps. Assumes nothing.
 use mathlib.Core.Path.{refl}
-use Prim.Native.Nat.{◌+◌, ◌*◌}
-use native.Mathlib.Omega.{arith}
-use borrow.Author.Rules.{rules}
 use Rattle.bernstein.specs.Places.{place}
-use Rattle.system.proofs.Sizes.{packed_high, product_high}
 use Rattle.system.proofs.head.Head.place.Goals as goal
 
 pub returns : goal.returns

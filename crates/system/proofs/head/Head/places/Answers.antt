@@ -1,7 +1,6 @@
 -- `Head::places` meets its contract: of bytes, the product fits. Assumes nothing.
 use mathlib.Core.Path.{refl}
 use native.Mathlib.Omega.{arith}
-use borrow.Author.Rules.{rules}
 use Rattle.system.proofs.Sizes.{product_high, size_of_bytes}
 use Rattle.system.specs.Heads.{places, degrees}
 use Rattle.system.proofs.head.Head.places.Goals as goal

@@ -1,9 +1,5 @@
 -- `Head::scale` meets its contract. Assumes nothing.
 use mathlib.Core.Path.{refl}
-use Prim.Native.Nat.{◌*◌}
-use native.Mathlib.Omega.{arith}
-use borrow.Author.Rules.{rules}
-use Rattle.system.proofs.Sizes.{product_high}
 use Rattle.system.specs.Heads.{scale}
 use Rattle.system.proofs.head.Head.scale.Goals as goal
 

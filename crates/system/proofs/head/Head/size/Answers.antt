@@ -1,10 +1,6 @@
 -- `Head::size` meets its contract: of bytes, the product fits. Assumes nothing.
 use mathlib.Core.Path.{refl}
-use Prim.Native.Nat.{◌*◌}
-use native.Mathlib.Omega.{arith}
-use borrow.Author.Rules.{rules}
 use Rattle.bernstein.specs.Places.{size}
-use Rattle.system.proofs.Sizes.{product_high}
 use Rattle.system.proofs.head.Head.size.Goals as goal
 
 pub returns : goal.returns

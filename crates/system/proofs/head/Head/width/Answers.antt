@@ -1,6 +1,5 @@
 -- `Head::width` meets its contract: of bytes, the sum fits. Assumes nothing.
 use native.Mathlib.Omega.{arith}
-use borrow.Author.Rules.{rules}
 use Rattle.bernstein.specs.Places.{size}
 use Rattle.system.proofs.Sizes.{product_high, size_of_bytes}
 use Rattle.system.specs.Heads.{places, degrees}
