@@ -134,15 +134,14 @@ class WhatIsRun(unittest.TestCase):
             self.made.source("echo " + answer)
             self.assertEqual(self.made.solve()[0], status, answer)
 
-    def test_words_and_an_end_with_a_status_make_it_five(self):
-        unread = "Error: Os { code: 21, kind: IsADirectory, message: \"Is a directory\" }"
-        cases = [("echo '%s' >&2" % unread, unread), ("echo '%s' >&2; exit 1" % unread, "solve: the program ended with status 1"),
-                 ("exit 2", "solve: the program ended with status 2"), ("kill -9 $$", "solve: the program ended with status 137"),
-                 ("echo 'emulator: warning' >&2", "emulator: warning")]
-        for line, words in cases:
+    def test_words_and_an_early_end_make_it_five(self):
+        unwritten = "solve: not all of the answer could be written: No space left on device"
+        cases = [("echo '%s' >&2" % unwritten, 5, unwritten), ("kill -9 $$", 5, "solve: the program was ended with status 137"),
+                 ("echo 'emulator: warning' >&2", 0, "emulator: warning")]
+        for line, status, words in cases:
             self.made.source("echo finished 3; " + line)
-            found, out, said = self.made.solve()
-            self.assertEqual((found, out, said.splitlines()[-1]), (5, "", words))
+            found, _, said = self.made.solve()
+            self.assertEqual((found, said.splitlines()[-1]), (status, words))
 
     def test_the_input_is_the_programs_alone(self):
         self.made.source("cat")
@@ -169,8 +168,8 @@ def example(name):
 
 
 def run(words, given=subprocess.DEVNULL, out=subprocess.PIPE, before=None):
-    """Status, output and words of a command; `before` is what its process does first. The system ends a program that writes to a pipe that nobody reads any
-    more, unless its starter sees to it that it does not: ./solve does, and for tools/start this does."""
+    """Status, output and words of a command; `before` is what its process does first. A signal for a pipe that nobody reads any more is kept from
+    tools/start, as ./solve keeps it from what it starts; the program itself takes no notice of it."""
     done = subprocess.run(words, stdin=given, stdout=out, stderr=subprocess.PIPE, timeout=300, preexec_fn=before, restore_signals=words[0].endswith("/solve"))
     return done.returncode, done.stdout, done.stderr.decode()
 

@@ -4,7 +4,7 @@ use mathlib.Core.Path.{◌≡◌, sym, ap, subst, subst₂}
 use mathlib.Core.List.{[], ◌∷◌}
 use Prim.Native.Nat.{ℕ, zero, suc, ◌+◌, ◌-◌, ◌≤◌}
 use native.Mathlib.Omega.{arith}
-use lib.Pow.{pow_pos as two-above}
+use lib.Pow.{pow_pos as two_above}
 use lib.IntN.{ℤ, pos, negsuc, one, pow, ◌+ℤ◌, ◌-ℤ◌, ◌*ℤ◌, *ℤ-zero}
 use lib.Signed.{◌≤ℤ◌, ◌<ℤ◌}
 use Rattle.whole.proofs.Quote.{ring, ring_from, reads}
@@ -50,7 +50,7 @@ unfolding steps number
 positive_line n i X q hq w g h =
     let v = high i *ℤ q -ℤ grid i *ℤ X in
     let u = grid i *ℤ X -ℤ low i *ℤ q in
-    *ℤ-cancel-< (pow (grid i) n) (pow_positive n (pos-< (two-above i.cuts)))
+    *ℤ-cancel-< (pow (grid i) n) (pow_positive n (pos-< (two_above i.cuts)))
     (subst₂ ◌<ℤ◌ (sym (*ℤ-zero (pow (grid i) n))) (steps_scale (grid i) q X n g 0)
     (blends_positive (λ m p r. steps (grid i) (low i) p (steps (grid i *ℤ q) (grid i *ℤ X) m (steps (grid i) (high i) r g)) 0)
     (blends v u (grid i) (low i) (grid i) (high i) (scaled (grid i) (low i) X q (high_is i)) (point (grid i) (low i) X q (high_is i)) g 0)

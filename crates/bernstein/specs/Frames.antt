@@ -3,7 +3,7 @@
 -- (`Lawful`), and the statement that boxes keep them.
 --
 --     Frame           a kind of cell                      boxes n         boxes, of degrees n
---     Lawful F        the laws of a frame                 Boxes-lawful    for degrees to 6 and at most 64 numbers boxes keep them
+--     Lawful F        the laws of a frame                 BoxesLawful     for degrees to 6 and at most 64 numbers boxes keep them
 use Rattle.std.specs.Prelude.{◌≡◌, ◌⊎◌, ℕ, ◌-◌, ◌^◌, ◌≤◌, ◌<◌, ℤ, pos, nat_abs, ◌<ℤ◌}
 use Rattle.whole.specs.Half.{Half, lower, upper}
 use Rattle.whole.specs.Size.{Below}

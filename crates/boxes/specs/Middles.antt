@@ -1,4 +1,4 @@
--- The middle and the half width of a box as doubles (01, "Runs"): (2k+1)/2^(s+1) and 1/2^(s+1), over the values of lib.Ieee. Definitions only.
+-- The middle and the half width of a box as doubles (01, "Runs"): (2k+1)/2^(s+1) and 1/2^(s+1), over the values of `Rattle.std.specs.Float.Ieee`. Definitions only.
 -- A finite value there is `fin sign m e`: m · 2^e, negative where the sign is true; `negsuc s` is the exponent -(s + 1).
 -- That these values are exact, said in whole numbers, and that no other double is: `DoublesExact`, `DoublesOnce` in Claims.
 use Rattle.std.specs.Prelude.{ℕ, ◌+◌, ◌*◌, ◌^◌, ◌≡◌, false, cond, negsuc}

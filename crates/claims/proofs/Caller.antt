@@ -10,7 +10,7 @@ use lib.ListN.{length, length-map}
 use Rattle.bernstein.specs.Numbers.{Box}
 use Rattle.system.specs.declared.head.Head.{Head}
 use Rattle.system.specs.declared.head.Checked.{Checked}
-use Rattle.system.specs.declared.head.Checked.TheVariants.{Good, Refused as Stopped-by}
+use Rattle.system.specs.declared.head.Checked.TheVariants.{Good, Refused as StoppedBy}
 use Rattle.boxes.specs.declared.visit.Visit as Seen
 use Rattle.boxes.specs.declared.visit.Word.{Word}
 use Rattle.search.specs.Machine.{Machine, Turn, nothing, no_room, go, Stop, stop, finished, full, drive}
@@ -111,7 +111,7 @@ visit_is_a_run h s list st = from (judged h s st list) refl
     from Good e =
         subst (λ (l : List Kept). SameEffects s (visit_of h s l st) (run_of h s 1 l st)) (remembered list)
         (entries (map remember list) (ap (judged h s st) (remembered list) ∙ e))
-    from (Stopped-by x) e =
+    from (StoppedBy x) e =
         let q = refusal_changes_nothing h s list st x e in
         record {
           answers = rw ((q.0 1).0, q.1.0) refl;

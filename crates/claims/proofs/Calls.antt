@@ -20,7 +20,7 @@ use Rattle.search.specs.Search.{is_dropped, is_kept, is_cut, States, start, beco
 use Rattle.search.specs.Claims.{Sound}
 use Rattle.search.specs.Lent.{slots}
 use Rattle.search.proofs.Search.{Closed}
-use Rattle.search.proofs.Calls.{Invariant, Good, Root, good as any-good}
+use Rattle.search.proofs.Calls.{Invariant, Good, Root, good as any_good}
 use Rattle.waiting.specs.Cells.{cells, left}
 use Rattle.waiting.specs.Fits.{Fit, Point, LiesIn, CommonZero}
 use Rattle.waiting.specs.Starts.{start_check, fresh_store}
@@ -113,7 +113,7 @@ module _ (h : Head) (cs st : List ℤ) (e : start_check h cs st ≡ Checked.Good
 
   -- ---- whenever a call begins
   pub good : (f : Memory) → Begun h cs st f → Good (cells h) kept_up f
-  good f b = any-good (cells h) kept_up (unit_slot h cs) (fresh_store h cs st) root f b
+  good f b = any_good (cells h) kept_up (unit_slot h cs) (fresh_store h cs st) root f b
 
 -- the check lets it through
 pub good_judged : (h : Head) (m : Limits h) (cs : List ℤ) (f : Memory) → Good (cells h) (keeps h m cs) f

@@ -17,7 +17,7 @@ use Rattle.search.specs.Lists.{All}
 use Rattle.search.specs.Search.{Look, Visit, is_dropped, is_kept}
 use Rattle.search.specs.Claims.{SeenBy, KeptBy}
 use Rattle.search.specs.Lent.{slots, slot, stack, at_start}
-use Rattle.search.proofs.Calls.{Good, both, holds, visits_are, good_after, seen_by, counted, means, whole, slots_enough as any-enough, longer, continues}
+use Rattle.search.proofs.Calls.{Good, both, holds, visits_are, good_after, seen_by, counted, means, whole, slots_enough as any_enough, longer, continues}
 use Rattle.whole.proofs.Parts.{by_lt}
 use Rattle.waiting.specs.Cells.{as_look, cells}
 use Rattle.waiting.specs.Fits.{Fit, InsideBox}
@@ -105,7 +105,7 @@ pub finished_is_whole : FinishedIsWhole
 finished_is_whole h cs st e f b budget a x i z = whole (cells h) (kept_up h cs st e) f (good h cs st e f b) budget a x (i, z)
 
 pub slots_enough : SlotsEnough
-slots_enough h cs st e f b budget = any-enough (cells h) (kept_up h cs st e) f (good h cs st e f b) budget
+slots_enough h cs st e f b budget = any_enough (cells h) (kept_up h cs st e) f (good h cs st e f b) budget
 
 pub continued : Continued
 continued h cs st e f b budget list k = continues (cells h) (kept_up h cs st e) (unit_slot h cs) (fresh_store h cs st) (root h cs st e) f b budget list k

@@ -6,7 +6,7 @@ use Prim.Native.Nat.{ℕ, zero, suc, ◌<◌}
 use native.Mathlib.Omega.{arith}
 use borrow.Author.Tests.{ltb-true}
 use lib.Dec.{ltb}
-use lib.IntN.{ℤ, pos, pow, one as whole-one}
+use lib.IntN.{ℤ, pos, pow, one as whole_one}
 use lib.ListN.{length, drop, replicate}
 use Rattle.whole.specs.Sums.{sum_to, choose}
 use Rattle.whole.proofs.Order.{pos-≤, pos-<}
@@ -25,11 +25,11 @@ use Rattle.waiting.specs.States.{span_ok, slot_ok, slots_ok, counts_ok, records_
 use Rattle.waiting.specs.Starts.{start_check, start_answer, start_store, fresh_state, fresh_store}
 use Rattle.waiting.specs.Steps.{nothing_kept, due, visited, next}
 use Rattle.file.specs.Bytes.{byte, Bytes, signed32}
-use Rattle.file.specs.Records.{due as record-due}
+use Rattle.file.specs.Records.{due as record_due}
 use Rattle.file.specs.Terms.{term, terms, coefficients}
 use Rattle.file.specs.Reading.{polynomial, ending, polynomials, numbers_of, checked, reads}
 use Rattle.file.specs.declared.reading.Answer as Read
-use Rattle.file.specs.declared.reading.Answer.TheVariants.{System, Refused as Not-read}
+use Rattle.file.specs.declared.reading.Answer.TheVariants.{System, Refused as NotRead}
 use Rattle.file.proofs.Tests.{both}
 use Rattle.file.proofs.Words.{any_bytes}
 use Rattle.waiting.proofs.Points.{any_zero}
@@ -77,7 +77,7 @@ half_inside = record {
 }
 
 zero_there : (t : ℕ) → t < 1 → (frame (one 1 2)).value half.numerators half.q (Slots.polynomial (one 1 2) read_coefficients t) ≡ pos 0
-unfolding half value_over sum_upto sum_to place size pow whole-one
+unfolding half value_over sum_upto sum_to place size pow whole_one
 zero_there zero l = refl
 zero_there (suc t) l = absurd (omega arith)
 
@@ -100,7 +100,7 @@ unfolding small
 F_bytes = any_bytes F_file (all_small F_file refl)
 
 F_read : reads F_file no_coefficients ≡ (Read.Answer.System (one 1 2), read_coefficients)
-unfolding reads checked polynomials polynomial ending numbers_of record-due terms term coefficients signed32 head_ok place size places
+unfolding reads checked polynomials polynomial ending numbers_of record_due terms term coefficients signed32 head_ok place size places
 F_read = refl
 
 F_whole : Whole F_file
@@ -108,7 +108,7 @@ F_whole = prints_finished F_file F_bytes (drop 8 F_lines) prints_F
 
 head_in : Read.Answer → Head
 head_in (System h) = h
-head_in (Not-read x) = one 0 0
+head_in (NotRead x) = one 0 0
 
 F_head : F_whole.head ≡ one 1 2
 unfolding head_in

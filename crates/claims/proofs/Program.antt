@@ -32,7 +32,7 @@ use Rattle.file.specs.Bytes.{byte, Bytes}
 use Rattle.file.specs.Reading.{reads}
 use Rattle.file.specs.declared.reading.Answer as Read
 use Rattle.file.proofs.Lengths.{front_decides}
-use Rattle.file.specs.declared.reading.Answer.TheVariants.{System, Refused as Not-read}
+use Rattle.file.specs.declared.reading.Answer.TheVariants.{System, Refused as NotRead}
 use Rattle.writing.specs.Writing.{all_in_range}
 use Rattle.writing.proofs.Claims.{in_limits}
 use Rattle.runs.specs.Lists.{first, taken, listed}
@@ -177,7 +177,7 @@ pub prints_finished : PrintsFinished
 prints_finished s b rest q = from (reads s no_coefficients).0 refl
   where
     from : (r : Read.Answer) → (reads s no_coefficients).0 ≡ r → Whole s
-    from (Not-read x) e = absurd (not_refused x rest (sym (prints_refusal s x e) ∙ q))
+    from (NotRead x) e = absurd (not_refused x rest (sym (prints_refusal s x e) ∙ q))
     from (System h) e =
         let cs : List ℤ = (reads s no_coefficients).1 in
         let read : reads s no_coefficients ≡ (System h, cs) = ap (λ (a : Read.Answer). (a, cs)) e in

@@ -11,7 +11,7 @@ use lib.Seq.{take-append-le, take-take, length-take-le}
 use Rattle.bernstein.specs.Numbers.{Box}
 use Rattle.system.specs.declared.head.Head.{Head}
 use Rattle.system.specs.declared.head.Checked.{Checked}
-use Rattle.system.specs.declared.head.Checked.TheVariants.{Good as Passed, Refused as Stopped-by}
+use Rattle.system.specs.declared.head.Checked.TheVariants.{Good as Passed, Refused as StoppedBy}
 use Rattle.boxes.specs.Boxes.{as_box}
 use Rattle.system.specs.Heads.{width}
 use Rattle.slots.specs.Slots.{box_in}
@@ -65,7 +65,7 @@ module _ (h : Head) (cs st : List ℤ) where
     begun = at_start (map remember list);
     shows = record { state = cc a; list_is = remembered list; store_is = refl };
   }
-  started s list (Stopped-by x) e a = let z : ◌≡◌ {A = ℕ} 0 1 = cc a in absurd (omega arith)
+  started s list (StoppedBy x) e a = let z : ◌≡◌ {A = ℕ} 0 1 = cc a in absurd (omega arith)
 
   -- ---- a call from lent memory f, whenever a call begins
   module _ (e : start_check h cs st ≡ Checked.Good) (f : Memory) (b : Begun h cs st f) where

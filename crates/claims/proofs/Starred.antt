@@ -15,7 +15,7 @@ use Rattle.waiting.specs.Starts.{start_check, fresh_store}
 use Rattle.waiting.specs.Steps.{due, visited, next}
 use Rattle.waiting.specs.Runs.{went}
 use Rattle.file.specs.Bytes.{signed32}
-use Rattle.file.specs.Records.{due as record-due}
+use Rattle.file.specs.Records.{due as record_due}
 use Rattle.file.specs.Terms.{term, terms, coefficients}
 use Rattle.file.specs.Reading.{polynomial, ending, polynomials, numbers_of, checked, reads}
 use Rattle.desk.specs.Text.{digits, decimal, ended, line}
@@ -48,7 +48,7 @@ limits_right =
     and refl and refl and refl and refl and refl and tt
 
 refusals_right : All Right refusals
-unfolding reads checked polynomials polynomial ending numbers_of record-due terms term coefficients signed32 head_ok place size places
+unfolding reads checked polynomials polynomial ending numbers_of record_due terms term coefficients signed32 head_ok place size places
 refusals_right =
     refl and refl and refl and refl and refl and refl and refl and refl and refl and refl and refl and refl and refl and refl
     and refl and refl and refl and refl and refl and refl and refl and refl and tt
@@ -62,19 +62,19 @@ starred_right =
     all_of examples (limits ++ (refusals ++ told)) examples_right (all_of limits (refusals ++ told) limits_right (all_of refusals told refusals_right told_right))
 
 pub prints_three : PrintsThree
-unfolding report found file_found system_found run_found reads checked polynomials polynomial ending numbers_of record-due terms term coefficients signed32
+unfolding report found file_found system_found run_found reads checked polynomials polynomial ending numbers_of record_due terms term coefficients signed32
     taken kept_lines line ended decimal digits
     start_check fresh_store judged_by list_ok records_ok counts_ok slots_ok slot_ok span_ok went next due visited lent_become head_ok
     unit_slot in_turn build formula sum_upto sum_to choose weight scale place size places after half_line half_slot looked decided every chosen
 prints_three = refl
 
 pub prints_F : PrintsF
-unfolding report found file_found system_found run_found reads checked polynomials polynomial ending numbers_of record-due terms term coefficients signed32
+unfolding report found file_found system_found run_found reads checked polynomials polynomial ending numbers_of record_due terms term coefficients signed32
     taken kept_lines line ended decimal digits
     start_check fresh_store judged_by list_ok records_ok counts_ok slots_ok slot_ok span_ok went next due visited lent_become head_ok
     unit_slot in_turn build formula sum_upto sum_to choose weight scale place size places after half_line half_slot looked decided every chosen
 prints_F = refl
 
 pub prints_of_no_bytes : PrintsOfNoBytes
-unfolding report found file_found reads checked record-due line ended decimal digits
+unfolding report found file_found reads checked record_due line ended decimal digits
 prints_of_no_bytes = refl

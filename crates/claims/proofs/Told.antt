@@ -19,7 +19,7 @@ use Rattle.slots.specs.Slots.{box_in}
 use Rattle.slots.specs.Rules.{looked}
 use Rattle.search.specs.Lists.{All, Any}
 use Rattle.search.specs.Machine.{Turn, nothing, no_room, go}
-use Rattle.search.specs.Search.{Entry, turn as any-turn, turn_top, seen as node_Seen}
+use Rattle.search.specs.Search.{Entry, turn as any_turn, turn_top, seen as node_Seen}
 use Rattle.search.specs.Claims.{Held, Further}
 use Rattle.search.specs.Lent.{stack, slots, held, memory, used, lent, at_start}
 use Rattle.search.proofs.Machine.{go_waits}
@@ -30,14 +30,14 @@ use Rattle.waiting.specs.Cells.{as_look, boxed, cells}
 use Rattle.waiting.specs.Fits.{Fit, InsideBox}
 use Rattle.waiting.specs.States.{state_of}
 use Rattle.waiting.specs.Starts.{start_check, fresh_store, fresh_state}
-use Rattle.waiting.specs.Steps.{top, visit_of as seen-in}
+use Rattle.waiting.specs.Steps.{top, visit_of as seen_in}
 use Rattle.waiting.specs.Runs.{forget, remember, word_of}
 use Rattle.waiting.proofs.Driving.{remembered}
 use Rattle.waiting.proofs.Starting.{start_passes}
 use Rattle.runs.specs.declared.runs.Stop.{Stop}
 use Rattle.runs.specs.declared.runs.Answer as Ran
 use Rattle.runs.specs.declared.visits.Seen.{Seen}
-use Rattle.runs.specs.declared.visits.Answer as Told-answer
+use Rattle.runs.specs.declared.visits.Answer as ToldAnswer
 use Rattle.runs.specs.Runs.{Run}
 use Rattle.runs.specs.Visits.{visit_of}
 use Rattle.runs.specs.Tables.{box_of}
@@ -161,21 +161,21 @@ runs_go_on h cs st st' e e' budget budget' list list' k k' =
 -- ---- the sign that a visit tells
 module _ (h : Head) (cs st : List ℤ) (e : start_check h cs st ≡ Checked.Good) (f : Memory) (b : Begun h cs st f) where
   top_fit : (lent (cells h)).turn (length f.list) f ≡ go → Fit h cs (top (boxed h) f.store (state_of f))
-  unfolding stack any-turn turn_top
+  unfolding stack any_turn turn_top
   top_fit t = from f.waiting refl
     where
       from : (n : ℕ) → f.waiting ≡ n → Fit h cs (top (boxed h) f.store (state_of f))
-      from zero w = absurd (go_waits t (ap (λ (i : ℕ). any-turn (slots (cells h)) (length f.list) (held (cells h) (memory f.store f.list i f.kept f.visits f.dropped))) w))
+      from zero w = absurd (go_waits t (ap (λ (i : ℕ). any_turn (slots (cells h)) (length f.list) (held (cells h) (memory f.store f.list i f.kept f.visits f.dropped))) w))
       from (suc n) w = slot_of (Fit h cs) (width h) f.waiting f.store (good h cs st e f b).waiting (f.waiting - 1) (omega arith)
 
   told_sign : (t : Turn) → (lent (cells h)).turn (length f.list) f ≡ t → Tells (visit_of h (state_of f) (map forget f.list) f.store) h f t
-      → (v : Seen) → (visit_of h (state_of f) (map forget f.list) f.store).answer ≡ Told-answer.Answer.Saw v → (p : ℕ) (g : Sign) → v.visit.what ≡ Outcome.Dropped p g
+      → (v : Seen) → (visit_of h (state_of f) (map forget f.list) f.store).answer ≡ ToldAnswer.Answer.Saw v → (p : ℕ) (g : Sign) → v.visit.what ≡ Outcome.Dropped p g
       → OneSign h cs (as_box v.visit.at) p g
   told_sign nothing t q v a p g w = let z : ◌≡◌ {A = ℕ} 0 1 = cc (sym q.0 ∙ a) in absurd (omega arith)
   told_sign no_room t q v a p g w = let z : ◌≡◌ {A = ℕ} 0 1 = cc (sym q.0 ∙ a) in absurd (omega arith)
   told_sign go t q v a p g w =
       let l = top (boxed h) f.store (state_of f) in
-      let same : seen-in (boxed h) (top (boxed h) f.store (state_of f)) (looked h (top (boxed h) f.store (state_of f))) ≡ v.visit = cc (sym q.0 ∙ a) in
+      let same : seen_in (boxed h) (top (boxed h) f.store (state_of f)) (looked h (top (boxed h) f.store (state_of f))) ≡ v.visit = cc (sym q.0 ∙ a) in
       subst (λ (u : Visit). OneSign h cs (as_box u.at) p g) same
       (one_sign h (start_passes h cs st e).limits cs (node_Seen l (as_look (looked h l))) (record { fit = top_fit t; looked = refl }) p g
       (ap as_look (ap (λ (u : Visit). u.what) same ∙ w)))
@@ -184,6 +184,6 @@ pub visit_tells_sign : VisitTellsSign
 visit_tells_sign h cs st s list store p v a q g w =
     let t = reached_is_begun h cs st s list store p in
     let f = t.memory in
-    as_shown (λ s l m. (v : Seen) → (visit_of h s l m).answer ≡ Told-answer.Answer.Saw v → (p : ℕ) (g : Sign) → v.visit.what ≡ Outcome.Dropped p g → OneSign h cs (as_box v.visit.at) p g) f s list store t.shows
+    as_shown (λ s l m. (v : Seen) → (visit_of h s l m).answer ≡ ToldAnswer.Answer.Saw v → (p : ℕ) (g : Sign) → v.visit.what ≡ Outcome.Dropped p g → OneSign h cs (as_box v.visit.at) p g) f s list store t.shows
     (told_sign h cs st t.accepted f t.begun ((lent (cells h)).turn (length f.list) f) refl
     (visit_is_a_visit h (state_of f) f.list f.store (passes h cs st t.accepted f t.begun))) v a q g w

@@ -16,12 +16,12 @@ use Rattle.waiting.specs.declared.cursor.Kept.{Kept}
 use Rattle.waiting.specs.Cells.{boxed, cells}
 use Rattle.waiting.specs.States.{judged}
 use Rattle.waiting.specs.States.{memory_of, state_of}
-use Rattle.waiting.specs.Steps.{top, visit_of as seen-in}
+use Rattle.waiting.specs.Steps.{top, visit_of as seen_in}
 use Rattle.waiting.specs.Runs.{Way, forget, word_of}
 use Rattle.runs.specs.declared.runs.Answer.{Answer}
-use Rattle.runs.specs.declared.runs.Answer.TheVariants.{Stopped as Ran, Refused as Not-run}
+use Rattle.runs.specs.declared.runs.Answer.TheVariants.{Stopped as Ran, Refused as NotRun}
 use Rattle.runs.specs.declared.visits.Answer as Visit
-use Rattle.runs.specs.declared.visits.Answer.TheVariants.{Saw, Stopped as Not-made, Refused as Not-visited}
+use Rattle.runs.specs.declared.visits.Answer.TheVariants.{Saw, Stopped as NotMade, Refused as NotVisited}
 use Rattle.runs.specs.Runs.{Run, run_of}
 use Rattle.runs.specs.Visits.{One, visit_of}
 use Rattle.claims.specs.Calls.{Memory, called}
@@ -50,7 +50,7 @@ Tells r h f no_room = (r.answer ≡ Visit.Answer.Stopped Word.Full) × Leaves r.
 Tells r h f go =
     let box = top (boxed h) f.store (state_of f) in
     let after = (lent (cells h)).visit f in
-    (r.answer ≡ Visit.Answer.Saw (record { state = state_of after; visit = seen-in (boxed h) box (looked h box) })) × Leaves r.end after
+    (r.answer ≡ Visit.Answer.Saw (record { state = state_of after; visit = seen_in (boxed h) box (looked h box) })) × Leaves r.end after
 
 abbrev pub VisitIsAVisit : Type 0
 VisitIsAVisit = (h : Head) (s : State) (list : List (Entry Box)) (st : List ℤ) → judged h s st (map forget list) ≡ Checked.Good
@@ -59,11 +59,11 @@ VisitIsAVisit = (h : Head) (s : State) (list : List (Entry Box)) (st : List ℤ)
 -- what a visit and a run with a budget of one answer, from the state s: the same counts; the same word where no visit is made; the same refusal
 abbrev pub Agree : State → Visit.Answer → Answer → Type 0
 Agree s (Saw v) (Ran r) = v.state ≡ r.state
-Agree s (Not-made w) (Ran r) = (w ≡ r.word) × (s ≡ r.state)
-Agree s (Not-visited x) (Ran r) = ⊥
-Agree s (Saw v) (Not-run y) = ⊥
-Agree s (Not-made w) (Not-run y) = ⊥
-Agree s (Not-visited x) (Not-run y) = x ≡ y
+Agree s (NotMade w) (Ran r) = (w ≡ r.word) × (s ≡ r.state)
+Agree s (NotVisited x) (Ran r) = ⊥
+Agree s (Saw v) (NotRun y) = ⊥
+Agree s (NotMade w) (NotRun y) = ⊥
+Agree s (NotVisited x) (NotRun y) = x ≡ y
 
 -- "Its refusals are a run's", and so is everything else that it does
 pub record SameEffects (s : State) (v : One) (r : Run) : Type 0 where

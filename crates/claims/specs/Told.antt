@@ -2,9 +2,9 @@
 -- proofs/Told.
 --
 --     first_run            one call from a fresh start
---     Reached-continued    what a caller reached by several calls is what one fresh call reaches
---     Runs-go-on           of two fresh calls, the one with more visits and more room goes on from the other
---     Visit-tells-sign     a box that a visit says it dropped has the polynomial and the sign that it names
+--     ReachedContinued     what a caller reached by several calls is what one fresh call reaches
+--     RunsGoOn             of two fresh calls, the one with more visits and more room goes on from the other
+--     VisitTellsSign       a box that a visit says it dropped has the polynomial and the sign that it names
 use Rattle.std.specs.Prelude.{◌≡◌, List, ◌⊎◌, ℕ, ◌≤◌, ℤ, length, take}
 use Rattle.bernstein.specs.Numbers.{Box}
 use Rattle.system.specs.declared.head.Head.{Head}

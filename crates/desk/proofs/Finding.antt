@@ -7,10 +7,10 @@ use Rattle.system.specs.declared.head.Head.{Head}
 use Rattle.system.specs.declared.refusal.Refused.{Refused}
 use Rattle.file.specs.Reading.{reads}
 use Rattle.file.specs.declared.reading.Answer.{Answer}
-use Rattle.file.specs.declared.reading.Answer.TheVariants.{System, Refused as Not-read}
+use Rattle.file.specs.declared.reading.Answer.TheVariants.{System, Refused as NotRead}
 use Rattle.waiting.specs.Starts.{start_check, start_answer, start_store}
 use Rattle.waiting.specs.declared.start.Started.{Started}
-use Rattle.waiting.specs.declared.start.Started.TheVariants.{Begun, Refused as Not-begun}
+use Rattle.waiting.specs.declared.start.Started.TheVariants.{Begun, Refused as NotBegun}
 use Rattle.waiting.specs.declared.state.State.{State}
 use Rattle.runs.specs.Runs.{run_of}
 use Rattle.runs.specs.declared.runs.Answer as Ran
@@ -35,7 +35,7 @@ module _ (b : ℕ) (h : Head) (cs st : List ℤ) (xs : List ℕ) (r : Started) (
   found_begun s st' est e =
       ap (λ (z : List ℤ). run_found b h s z xs) est ∙ ap (λ (z : Started). started_found b h z (start_store h cs st (start_check h cs st)) xs) (sym e ∙ er)
 
-  found_unbegun : (x : Refused) → r ≡ Not-begun x → refused x xs ≡ system_found b h cs st xs
+  found_unbegun : (x : Refused) → r ≡ NotBegun x → refused x xs ≡ system_found b h cs st xs
   unfolding system_found
   found_unbegun x e = ap (λ (z : Started). started_found b h z (start_store h cs st (start_check h cs st)) xs) (sym e ∙ er)
 
@@ -44,7 +44,7 @@ module _ (b : ℕ) (h : Head) (cs st : List ℤ) (xs : List ℕ) (r : Started) (
   unfolding run_found
   after_start s st' a ys est e ea ey = moved (run_found b h s st' xs) (system_found b h cs st xs) (found_begun s st' est e) xs a ys (ea, ey)
 
-  pub not_started : (x : Refused) → r ≡ Not-begun x → Leaves (system_found b h cs st xs) xs (Ran.Answer.Refused x) xs
+  pub not_started : (x : Refused) → r ≡ NotBegun x → Leaves (system_found b h cs st xs) xs (Ran.Answer.Refused x) xs
   not_started x e = moved (refused x xs) (system_found b h cs st xs) (found_unbegun x e) xs (Ran.Answer.Refused x) xs (stays x xs)
 
 module _ (b : ℕ) (file : List ℕ) (cs st : List ℤ) (xs : List ℕ) (r : Answer) (er : r ≡ (reads file cs).0) where
@@ -53,7 +53,7 @@ module _ (b : ℕ) (file : List ℕ) (cs st : List ℤ) (xs : List ℕ) (r : Ans
   unfolding file_found
   found_read h cs' ecs e = ap (λ (z : List ℤ). system_found b h z st xs) ecs ∙ ap (λ (z : Answer). read_found b z (reads file cs).1 st xs) (sym e ∙ er)
 
-  pub found_unread : (x : Refused) → r ≡ Not-read x → refused x xs ≡ file_found b file cs st xs
+  pub found_unread : (x : Refused) → r ≡ NotRead x → refused x xs ≡ file_found b file cs st xs
   unfolding file_found
   found_unread x e = ap (λ (z : Answer). read_found b z (reads file cs).1 st xs) (sym e ∙ er)
 
@@ -61,5 +61,5 @@ module _ (b : ℕ) (file : List ℕ) (cs st : List ℤ) (xs : List ℕ) (r : Ans
       → Leaves (file_found b file cs st xs) xs a ys
   after_read h cs' a ys ecs e l = moved (system_found b h cs' st xs) (file_found b file cs st xs) (found_read h cs' ecs e) xs a ys l
 
-  pub not_read : (x : Refused) → r ≡ Not-read x → Leaves (file_found b file cs st xs) xs (Ran.Answer.Refused x) xs
+  pub not_read : (x : Refused) → r ≡ NotRead x → Leaves (file_found b file cs st xs) xs (Ran.Answer.Refused x) xs
   not_read x e = moved (refused x xs) (file_found b file cs st xs) (found_unread x e) xs (Ran.Answer.Refused x) xs (stays x xs)

@@ -7,7 +7,7 @@ use Rattle.boxes.specs.declared.visit.Word.{Word}
 use Rattle.boxes.specs.declared.visit.Word.TheVariants.{Finished, Spent, Full}
 use Rattle.waiting.specs.declared.cursor.Kept.{Kept}
 use Rattle.runs.specs.declared.runs.Answer.{Answer}
-use Rattle.runs.specs.declared.runs.Answer.TheVariants.{Stopped, Refused as Not-run}
+use Rattle.runs.specs.declared.runs.Answer.TheVariants.{Stopped, Refused as NotRun}
 use Rattle.runs.specs.Lists.{seven}
 use Rattle.desk.specs.Text.{decimal, line}
 
@@ -46,9 +46,9 @@ kept_lines (k ∷ ks) = kept_line k ++ kept_lines ks
 abbrev pub told : Answer → List Kept → List ℕ
 told (Stopped s) list =
     stop_line s.word s.state.visits s.state.dropped s.state.kept s.state.waiting ++ kept_lines (take s.state.kept list)
-told (Not-run x) list = refusal_line x
+told (NotRun x) list = refusal_line x
 
 -- how many kept boxes that tells, where the list has so many numbers
 abbrev pub lines_told : Answer → (numbers : ℕ) → ℕ
 lines_told (Stopped s) n = min s.state.kept (n / 7)
-lines_told (Not-run x) n = 0
+lines_told (NotRun x) n = 0

@@ -6,15 +6,15 @@ use Rattle.system.specs.declared.refusal.Refused.{Refused}
 use Rattle.system.specs.Heads.{places, Limits}
 use Rattle.file.specs.Reading.{reads}
 use Rattle.file.specs.declared.reading.Answer.{Answer}
-use Rattle.file.specs.declared.reading.Answer.TheVariants.{System, Refused as Not-read}
+use Rattle.file.specs.declared.reading.Answer.TheVariants.{System, Refused as NotRead}
 use Rattle.waiting.specs.Starts.{start_check, start_answer, start_store}
 use Rattle.waiting.specs.States.{needed}
 use Rattle.waiting.specs.declared.start.Started.{Started}
-use Rattle.waiting.specs.declared.start.Started.TheVariants.{Begun, Refused as Not-begun}
+use Rattle.waiting.specs.declared.start.Started.TheVariants.{Begun, Refused as NotBegun}
 use Rattle.waiting.specs.declared.state.State.{State}
 use Rattle.waiting.specs.declared.cursor.Kept.{Kept}
 use Rattle.runs.specs.declared.runs.Answer as Ran
-use Rattle.runs.specs.declared.runs.Answer.TheVariants.{Refused as Not-run}
+use Rattle.runs.specs.declared.runs.Answer.TheVariants.{Refused as NotRun}
 use Rattle.runs.specs.Runs.{run_of}
 use Rattle.runs.specs.Lists.{listed}
 use Rattle.desk.specs.Lines.{told}
@@ -26,7 +26,7 @@ pub record Found : Type 0 where
 
 -- a refusal changes nothing
 abbrev pub refused : Refused → (list : List ℕ) → Found
-refused x list = record { answer = Not-run x; kept = listed list }
+refused x list = record { answer = NotRun x; kept = listed list }
 
 -- ---- from a state, with what stands in the store
 unfoldable pub run_found : (budget : ℕ) → Head → State → (store : List ℤ) (list : List ℕ) → Found
@@ -35,7 +35,7 @@ run_found b h s st list = record { answer = (run_of h s b (listed list) st).answ
 -- ---- from a start
 abbrev pub started_found : (budget : ℕ) → Head → Started → (store : List ℤ) (list : List ℕ) → Found
 started_found b h (Begun s) st list = run_found b h s st list
-started_found b h (Not-begun x) st list = refused x list
+started_found b h (NotBegun x) st list = refused x list
 
 unfoldable pub system_found : (budget : ℕ) → Head → (coefficients store : List ℤ) (list : List ℕ) → Found
 system_found b h cs st list = started_found b h (start_answer (start_check h cs st)) (start_store h cs st (start_check h cs st)) list
@@ -43,7 +43,7 @@ system_found b h cs st list = started_found b h (start_answer (start_check h cs 
 -- ---- from a file
 abbrev pub read_found : (budget : ℕ) → Answer → (coefficients store : List ℤ) (list : List ℕ) → Found
 read_found b (System h) cs st list = system_found b h cs st list
-read_found b (Not-read x) cs st list = refused x list
+read_found b (NotRead x) cs st list = refused x list
 
 unfoldable pub file_found : (budget : ℕ) → List ℕ → (coefficients store : List ℤ) (list : List ℕ) → Found
 file_found b file cs st list = read_found b (reads file cs).0 (reads file cs).1 st list

@@ -15,8 +15,8 @@ use Rattle.file.specs.declared.reading.Answer.{Answer}
 use Rattle.file.specs.Reading.{reads}
 use Rattle.writing.specs.declared.Written.{Written}
 use Rattle.writing.specs.Writing.{writes}
-use Rattle.runs.specs.declared.runs.Answer as Of-run
-use Rattle.runs.specs.declared.visits.Answer as Of-visit
+use Rattle.runs.specs.declared.runs.Answer as OfRun
+use Rattle.runs.specs.declared.visits.Answer as OfVisit
 use Rattle.runs.specs.Runs.{Run, run_of}
 use Rattle.runs.specs.Visits.{One, visit_of}
 use Rattle.runs.specs.Tables.{box_of}
@@ -59,9 +59,9 @@ abbrev pub start_call : (head : List ℕ) (coefficients store : List ℤ) (state
 start_call head coefficients store state = start_by (head_from head) coefficients store state (start_check (head_from head) coefficients store)
 
 -- ---- a run
-abbrev pub run_left : (store : List ℤ) (list state : List ℕ) (word : ℕ) → (store' : List ℤ) (list' : List ℕ) → Of-run.Answer → Left (List ℤ × List ℕ × List ℕ × ℕ)
-run_left store list state word store' list' (Of-run.Answer.Stopped s) = done (store', list', state_numbers s.state, word_number s.word)
-run_left store list state word store' list' (Of-run.Answer.Refused x) = refused x (store, list, state, word)
+abbrev pub run_left : (store : List ℤ) (list state : List ℕ) (word : ℕ) → (store' : List ℤ) (list' : List ℕ) → OfRun.Answer → Left (List ℤ × List ℕ × List ℕ × ℕ)
+run_left store list state word store' list' (OfRun.Answer.Stopped s) = done (store', list', state_numbers s.state, word_number s.word)
+run_left store list state word store' list' (OfRun.Answer.Refused x) = refused x (store, list, state, word)
 
 abbrev pub run_by : (store : List ℤ) (list state : List ℕ) (word : ℕ) → Run → Left (List ℤ × List ℕ × List ℕ × ℕ)
 run_by store list state word r = run_left store list state word r.end.store (relisted list r.end.list) r.answer
@@ -70,11 +70,11 @@ abbrev pub run_call : (head : List ℕ) (budget : ℕ) (store : List ℤ) (list 
 run_call head budget store list state word = run_by store list state word (run_of (head_from head) (state_from state) budget (listed list) store)
 
 -- ---- one visit: the word is 0 where it was made; finished and full change nothing else
-abbrev pub visit_left : (store : List ℤ) (list state visit : List ℕ) (word : ℕ) → (store' : List ℤ) (list' : List ℕ) → Of-visit.Answer
+abbrev pub visit_left : (store : List ℤ) (list state visit : List ℕ) (word : ℕ) → (store' : List ℤ) (list' : List ℕ) → OfVisit.Answer
     → Left (List ℤ × List ℕ × List ℕ × List ℕ × ℕ)
-visit_left store list state visit word store' list' (Of-visit.Answer.Saw s) = done (store', list', state_numbers s.state, visit_numbers s.visit, 0)
-visit_left store list state visit word store' list' (Of-visit.Answer.Stopped w) = done (store, list, state, visit, word_number w)
-visit_left store list state visit word store' list' (Of-visit.Answer.Refused x) = refused x (store, list, state, visit, word)
+visit_left store list state visit word store' list' (OfVisit.Answer.Saw s) = done (store', list', state_numbers s.state, visit_numbers s.visit, 0)
+visit_left store list state visit word store' list' (OfVisit.Answer.Stopped w) = done (store, list, state, visit, word_number w)
+visit_left store list state visit word store' list' (OfVisit.Answer.Refused x) = refused x (store, list, state, visit, word)
 
 abbrev pub visit_by : (store : List ℤ) (list state visit : List ℕ) (word : ℕ) → One → Left (List ℤ × List ℕ × List ℕ × List ℕ × ℕ)
 visit_by store list state visit word r = visit_left store list state visit word r.end.store (relisted list r.end.list) r.answer

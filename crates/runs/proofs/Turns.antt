@@ -11,7 +11,7 @@ use lib.IntN.{ℤ}
 use lib.Dec.{T as Holds}
 use Rattle.system.specs.declared.head.Head.{Head}
 use Rattle.system.specs.declared.head.Checked.{Checked}
-use Rattle.system.specs.declared.head.Checked.TheVariants.{Good as Is-good, Refused}
+use Rattle.system.specs.declared.head.Checked.TheVariants.{Good as IsGood, Refused}
 use Rattle.waiting.specs.declared.cursor.Kept.{Kept}
 use Rattle.waiting.specs.declared.cursor.Cursor.{Cursor}
 use Rattle.waiting.specs.declared.state.State.{State}
@@ -83,9 +83,9 @@ starts h s budget list st room_fits budget-fits =
     record { same = refl; enough = enough_for (judged h s st list); ready = ready_for (judged h s st list) refl; listed = refl; stored = refl }
   where
     enough_for : (v : Checked) → Holds (opened v (begun s budget (length list))).go → (opened v (begun s budget (length list))).left < budget + 1
-    enough_for Is-good p = omega arith
+    enough_for IsGood p = omega arith
     enough_for (Refused x) p = absurd p
 
     ready_for : (v : Checked) → judged h s st list ≡ v → Holds (opened v (begun s budget (length list))).go → Ready h st (opened v (begun s budget (length list)))
-    ready_for Is-good e p = judged_ready h s st list budget room_fits budget-fits e
+    ready_for IsGood e p = judged_ready h s st list budget room_fits budget-fits e
     ready_for (Refused x) e p = absurd p

@@ -3,7 +3,7 @@
 use Rattle.std.specs.Prelude.{ℕ, ◌+◌, List, ℤ, length}
 use Rattle.system.specs.declared.head.Head.{Head}
 use Rattle.system.specs.declared.head.Checked.{Checked}
-use Rattle.system.specs.declared.head.Checked.TheVariants.{Good, Refused as Stopped-by}
+use Rattle.system.specs.declared.head.Checked.TheVariants.{Good, Refused as StoppedBy}
 use Rattle.boxes.specs.declared.visit.Word.{Word}
 use Rattle.waiting.specs.declared.state.State.{State}
 use Rattle.waiting.specs.declared.cursor.Kept.{Kept}
@@ -18,12 +18,12 @@ use Rattle.runs.specs.declared.runs.Answer.TheVariants.{Stopped, Refused}
 -- where a run begins
 abbrev pub opened : Checked → Cursor → Cursor
 opened Good c = c
-opened (Stopped-by x) c = halted c Word.Spent
+opened (StoppedBy x) c = halted c Word.Spent
 
 -- the word and the four counts, or the refusal
 abbrev pub answered : Checked → Cursor → Answer
 answered Good c = Stopped (record { word = c.word; state = c.state })
-answered (Stopped-by x) c = Refused x
+answered (StoppedBy x) c = Refused x
 
 abbrev pub set_out : Head → State → (budget : ℕ) → List Kept → List ℤ → Way ℤ
 set_out h s budget list st = way list st (opened (judged h s st list) (begun s budget (length list)))

@@ -3,7 +3,7 @@
 use Rattle.std.specs.Prelude.{Bool, true, false, cond, List, ℤ, length}
 use Rattle.system.specs.declared.head.Head.{Head}
 use Rattle.system.specs.declared.head.Checked.{Checked}
-use Rattle.system.specs.declared.head.Checked.TheVariants.{Good, Refused as Stopped-by}
+use Rattle.system.specs.declared.head.Checked.TheVariants.{Good, Refused as StoppedBy}
 use Rattle.waiting.specs.declared.state.State.{State}
 use Rattle.waiting.specs.declared.cursor.Kept.{Kept}
 use Rattle.waiting.specs.declared.cursor.Cursor.{Cursor}
@@ -27,7 +27,7 @@ stepped h st c = record { cursor = (next (boxed h) st c).cursor; visit = seen (b
 -- the visit and the state after it, or the word; or the refusal
 abbrev pub told : Checked → Made → Answer
 told Good m = cond m.cursor.go (Saw (record { state = m.cursor.state; visit = m.visit })) (Stopped m.cursor.word)
-told (Stopped-by x) m = Refused x
+told (StoppedBy x) m = Refused x
 
 pub record One : Type 0 where
   pub answer : Answer

@@ -2,7 +2,7 @@
 -- the calls. So the demands hold of every call: they are stated in `claims` for the cells of a system. Assumes nothing.
 --
 --     Invariant K          what there is to keep           Good f          f keeps it
---     good-after           a call leaves it                good-next       and so does a longer list
+--     good_after           a call leaves it                good_next       and so does a longer list
 --     good_start           a start has it                  good            whenever a call begins
 use mathlib.Core.Path.{◌≡◌, refl, sym, ap, ◌∙◌, subst}
 use mathlib.Core.Logic.{inl, inr}

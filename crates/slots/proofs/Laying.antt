@@ -80,7 +80,7 @@ pub record Laid (h : Head) (r : Direction) (l store : List ℤ) : Type 0 where
 module _ (h : Head) (r : Direction) (two : List ℤ) (long : length two ≡ width h + width h) {last store : List ℤ} {up lo : Numbers.Box}
     (upper_is : up ≡ half_box upper r (box_in (take (width h) two))) (lower_is : lo ≡ half_box lower r (box_in (take (width h) two)))
     (last-is : last ≡ box_numbers lo ++ numbers (take (length two - width h) (drop (width h) two)))
-    (Store-is : store ≡ box_numbers up ++ numbers (put_mid (width h) (length two - width h) two last)) where
+    (store_is : store ≡ box_numbers up ++ numbers (put_mid (width h) (length two - width h) two last)) where
   abbrev one : List ℤ
   one = put_mid (width h) (length two - width h) two last
 
@@ -100,12 +100,12 @@ module _ (h : Head) (r : Direction) (two : List ℤ) (long : length two ≡ widt
       six_more = simp (length-append, length-drop, length-take) (omega arith)
 
   behind : (y : ℕ) → at store (6 + y) ≡ at one (6 + y)
-  behind y = ap (λ (x : List ℤ). at x (6 + y)) Store-is ∙ get_or-append-add (box_numbers up) (drop 6 one) y (pos 0) ∙ get_or-drop 6 one y (pos 0)
+  behind y = ap (λ (x : List ℤ). at x (6 + y)) store_is ∙ get_or-append-add (box_numbers up) (drop 6 one) y (pos 0) ∙ get_or-drop 6 one y (pos 0)
 
   pub laid : Laid h r (take (width h) two) store
   laid = record {
-    long = ap length Store-is ∙ length-append (box_numbers up) (drop 6 one) ∙ store_length;
-    front = λ i b. ap (λ (x : List ℤ). at x i) Store-is ∙ get_or-append (box_numbers up) (drop 6 one) (pos 0) i b ∙ ap (λ (x : Numbers.Box). at (box_numbers x) i) upper_is;
+    long = ap length store_is ∙ length-append (box_numbers up) (drop 6 one) ∙ store_length;
+    front = λ i b. ap (λ (x : List ℤ). at x i) store_is ∙ get_or-append (box_numbers up) (drop 6 one) (pos 0) i b ∙ ap (λ (x : Numbers.Box). at (box_numbers x) i) upper_is;
     inside = λ y b.
         behind y ∙ ap (λ (x : List ℤ). at x (6 + y)) one_is ∙ get_or-append (take (width h) two) (box_numbers lo ++ rest) (pos 0) (6 + y) (omega (arith, front_length))
         ∙ sym (get_or-drop 6 (take (width h) two) y (pos 0));

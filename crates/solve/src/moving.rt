@@ -5,7 +5,7 @@ ghost use Rattle.std.specs.Prelude.{◌≤◌, length};
 use std::io;
 use std::io::{Error, ErrorKind, Read, Write};
 
-// A proved loop has to end, and a call may be broken off again and again: so many are made at most, far more than there are bytes.
+// A proved loop has to end, and a read may be broken off again and again: so many are made at most, far more than there are bytes.
 const CALLS: u32 = 1000000;
 
 // Whether the call that failed may be made again.

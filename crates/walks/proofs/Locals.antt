@@ -17,7 +17,7 @@ use mathlib.Core.List.{List, [], ◌∷◌}
 use seplogic.Ra.Ura.{Ura}
 use base.Fraction.{full_share}
 use lib.Dec.{T as Holds}
-use mir.Syntax.{Sym, Ty, Tys, Local, Fn, Opd as Operand, Body, Rv as Right, copy, place, field as step_in, deref, addr_of, skip, seq, assign, block, loop, cond, switch, exit, return, unreachable, call, call_v, lend_static, ty_struct, local as of-type}
+use mir.Syntax.{Sym, Ty, Tys, Local, Fn, Opd as Operand, Body, Rv as Right, copy, place, field as step_in, deref, addr_of, skip, seq, assign, block, loop, cond, switch, exit, return, unreachable, call, call_v, lend_static, ty_struct, local as of_type}
 use mir.Val.{Val, Vals, vbool, vptr, vstruct, has_ty, WT}
 use mir.Fields.{get_v, set_v}
 use base.Logic.{SProp, ent, id⊢, via, mono_r}
@@ -46,23 +46,23 @@ holding τ b empty = ‵ (froom τ b 0)
 
 abbrev pub locals : {M : Type 1} {𝓤 : Ura M} → List Local → List ℕ → List Content → List (Item 𝓤)
 locals [] bs xs = []
-locals (of-type τ h ∷ ls) [] xs = []
-locals (of-type τ h ∷ ls) (b ∷ bs) [] = []
-locals (of-type τ h ∷ ls) (b ∷ bs) (x ∷ xs) = holding τ b x ∷ ‵ (fdies τ b) ∷ locals ls bs xs
+locals (of_type τ h ∷ ls) [] xs = []
+locals (of_type τ h ∷ ls) (b ∷ bs) [] = []
+locals (of_type τ h ∷ ls) (b ∷ bs) (x ∷ xs) = holding τ b x ∷ ‵ (fdies τ b) ∷ locals ls bs xs
 
 abbrev pub places : List Local → List ℕ → List (Ty × ℕ)
 places [] bs = []
-places (of-type τ h ∷ ls) [] = []
-places (of-type τ h ∷ ls) (b ∷ bs) = (τ, b) ∷ places ls bs
+places (of_type τ h ∷ ls) [] = []
+places (of_type τ h ∷ ls) (b ∷ bs) = (τ, b) ∷ places ls bs
 
 -- ---- the code begins: a proof for each choice of the locals' places
 abbrev pub Each : List Local → (List (Ty × ℕ) → Type 1) → Type 1
 Each [] P = P []
-Each (of-type τ h ∷ ls) P = (b : ℕ) → Each ls (λ E. P ((τ, b) ∷ E))
+Each (of_type τ h ∷ ls) P = (b : ℕ) → Each ls (λ E. P ((τ, b) ∷ E))
 
 each_map : (ls : List Local) {P Q : List (Ty × ℕ) → Type 1} → ((E : List (Ty × ℕ)) → P E → Q E) → Each ls P → Each ls Q
 each_map [] f p = f [] p
-each_map (of-type τ h ∷ ls) f p = λ b. each_map ls (λ E. f ((τ, b) ∷ E)) (p b)
+each_map (of_type τ h ∷ ls) f p = λ b. each_map ls (λ E. f ((τ, b) ∷ E)) (p b)
 
 abbrev pub rooms : {M : Type 1} {𝓤 : Ura M} → List (Ty × ℕ) → List (Item 𝓤) → List (Item 𝓤)
 rooms [] Γ = Γ
@@ -99,7 +99,7 @@ module _ {M : Type 1} {𝓤 : Ura M} {𝓛 : Logic 𝓤} {K : Type 0} where
 
   allots : K → {Γ : List (Item 𝓤)} (ls : List Local) {G : Env 𝓤 H → Goal 𝓤 H} → Each ls (λ E. Seq K 𝓛 (rooms E Γ) (G E)) → Seq K 𝓛 Γ (allocs ls G)
   allots t [] s = alloc0 t $ s
-  allots t {Γ} (of-type τ h ∷ ls) {G} s = alloc1 t (λ b. allots t {Γ = ‵ (froom τ b 0) ∷ ‵ (fdies τ b) ∷ Γ} ls (each_map ls (λ E p. by t (via 𝓤 _ (rise 𝓛 E (‵ (froom τ b 0)) (‵ (fdies τ b)) Γ) p.prf)) (s b)))
+  allots t {Γ} (of_type τ h ∷ ls) {G} s = alloc1 t (λ b. allots t {Γ = ‵ (froom τ b 0) ∷ ‵ (fdies τ b) ∷ Γ} ls (each_map ls (λ E p. by t (via 𝓤 _ (rise 𝓛 E (‵ (froom τ b 0)) (‵ (fdies τ b)) Γ) p.prf)) (s b)))
 
   pub begins : K → {Γ : List (Item 𝓤)} (C : Calls 𝓤 H) (Λ : Loops 𝓤 H) (f : Fn) (vs : List Val) (Q : Val → SProp 𝓤)
       → Each f.locals (λ E. Seq K 𝓛 (rooms E Γ) (params' E vs (runs C Λ E f.body (at_ret E Q)))) → Seq K 𝓛 Γ (prop (WpFn 𝓤 H C Λ f vs Q))

@@ -1,2 +1,2 @@
-// No code: what the walks by hand of the crates above share stands in proofs/.
+// No code: laws for proofs that walk the code by hand stand in proofs/. No crate needs them today.
 #![tactic(auto)]

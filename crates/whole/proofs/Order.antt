@@ -1,4 +1,4 @@
--- The order of ℤ (lib.Signed's _≤ℤ_ and _<ℤ_): a ≤ b where b is a and a natural number more. The laws of sign reasoning, and the naturals in ℤ. Assumes nothing.
+-- The order of ℤ (the library's ◌≤ℤ◌ and ◌<ℤ◌): a ≤ b where b is a and a natural number more. The laws of sign reasoning, and the naturals in ℤ. Assumes nothing.
 use mathlib.Core.Path.{◌≡◌, refl, sym, ◌∙◌, ap, ap₂, subst}
 use mathlib.Core.List.{List, [], ◌∷◌}
 use mathlib.Core.Logic.{◌⊎◌, inl, inr}

@@ -1,4 +1,4 @@
--- A reflective solver for identities of the commutative ring ℤ (lib.IntN).
+-- A reflective solver for identities of the commutative ring ℤ.
 -- An expression is an `Ex`; its value under a list of integers is `ev ρ e`; its normal form `norm e` is a sum of monomials, sorted, with no zero coefficient.
 -- solve ρ e₁ e₂ tt : ev ρ e₁ ≡ ev ρ e₂   where the two normal forms are one. All is `abbrev`, so that both sides compute where the call stands.
 use mathlib.Core.Path.{◌≡◌, refl, sym, ◌∙◌, ap, ap₂}
