@@ -45,11 +45,14 @@ RT = """#!/bin/sh
 case $1 in
 all)
     echo "== summary"
-    for crate in crates/*; do
+    low=0
+    for crate in crates/low crates/high; do
+        [ -d "$crate" ] || continue
+        [ "$low" = 0 ] || { echo "${crate##*/}: not run, low failed"; continue; }
         status=$(cat "$KIT/$(cat "$crate/src/lib.rt").status")
         mkdir -p "$crate/out/incremental" "$crate/out/rlib"
         echo kept >"$crate/out/incremental/part.oantt"; echo note >"$crate/out/incremental/note"; echo made >"$crate/out/rlib/stamp"
-        case $status in 0) echo "${crate##*/}: ok" ;; *) echo "${crate##*/}: failed ($status)" ;; esac
+        case $status in 0) echo "${crate##*/}: ok" ;; *) echo "${crate##*/}: failed ($status)"; low=$status ;; esac
     done
     echo "some of them crates ok" ;;
 check)
@@ -277,6 +280,11 @@ class Whole(Folder):
         self.source("unsure", crate="high")
         told = self.fails("high: the crate itself is not proved (failed (3)), and none of its edits was tried")
         self.assertEqual(told[-1], "1 refused at their places, 1 failed")
+
+    def test_a_library_that_is_missing(self):
+        self.word("wrong", crate="high")
+        self.source("unsure")
+        self.fails("high: the crate itself is not proved (not run, low failed), and none of its edits was tried")
 
     def test_names_that_are_no_crates_or_have_no_edit(self):
         self.fails("no crate has an edit in teeth/")
