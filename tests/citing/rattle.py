@@ -6,8 +6,11 @@ import pathlib
 import re
 
 NOTES = re.compile(r"""b?"(?:\\.|[^"\\\n])*"|b?'(?:\\.|[^'\\\n])'|//[^\n]*|/\*.*?\*/""", re.S)
-ITEM = re.compile(r"""\s*(?:pub(?:\([^)]*\))? |ghost |extern "" )*(?P<kind>fn|struct|enum|const|impl|mod) (?:\w+ for )?(?P<name>\w+)""")
+ITEM = re.compile(
+    r"""\s*(?:pub(?:\([^)]*\))? |ghost |extern "" )*(?P<kind>fn|struct|enum|trait|const|impl|mod)(?:<[^>]*>)? (?:[\w<>\[\];, ']+ for )?(?P<name>\w+)"""
+)
 FUNCTION = re.compile(r"""(?m)^ *(?:pub(?:\([^)]*\))? )?(?:extern "" )?fn \w""")
+TRAIT = re.compile(r"(?ms)^(?:pub )?trait .*?^}")
 MEMBER = re.compile(r"\s*(?:pub(?:\([^)]*\))? )?(?P<name>\w+)\s*(?:[:,({]|$)")
 
 
@@ -31,7 +34,7 @@ def items(text):
                     yield path + (item["name"],)
                 if item["kind"] not in ("fn", "const") and "{" in line:
                     blocks.append((depth + 1, item["kind"], item["name"]))
-            elif member and kind in ("struct", "enum"):
+            elif member and kind in ("struct", "enum", "trait"):
                 yield path + (member["name"],)
         depth += line.count("{") - line.count("}")
 
@@ -50,8 +53,8 @@ def paths(src):
 
 
 def functions(text):
-    """How many functions a file has."""
-    return len(FUNCTION.findall(code(text)))
+    """How many functions a file has. What a trait asks for is none yet: each `impl` has it."""
+    return len(FUNCTION.findall(TRAIT.sub("", code(text))))
 
 
 if __name__ == "__main__":

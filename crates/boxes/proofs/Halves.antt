@@ -1,11 +1,11 @@
 -- The half of a box: when it is refused, and that a child is bernstein's half-box and allowed again. Assumes nothing.
-use mathlib.Core.Path.{◌≡◌, refl, sym, ap, ◌∙◌}
+use Rattle.std.specs.Prelude.{Ok}
+use mathlib.Core.Path.{◌≡◌, refl, sym, ap}
 use mathlib.Core.Bool.{Bool, true, false, ◌&&◌, cond}
-use Prim.Native.Nat.{ℕ, zero, suc, ◌+◌, ◌*◌, ◌^◌, ◌≤◌, ◌<◌}
-use native.Mathlib.Nat.{add-zero, lt_of_lt_of_le, pow-succ'}
-use native.Mathlib.Numerals.{add-one}
+use Prim.Native.Nat.{ℕ, ◌^◌, ◌≤◌, ◌<◌}
+use native.Mathlib.Nat.{lt_of_lt_of_le, pow-succ'}
 use native.Mathlib.Omega.{arith}
-use borrow.Author.Tests.{lt-ltb, le-ltb, ltb-true}
+use borrow.Author.Tests.{ltb-true}
 use lib.Dec.{ltb}
 use lib.Pow.{pow_mono}
 use Rattle.whole.specs.Half.{Half, lower, upper}
@@ -14,10 +14,9 @@ use Rattle.bernstein.specs.Three.{◌!◌, replace, first, second, third}
 use Rattle.bernstein.specs.Numbers
 use Rattle.bernstein.specs.Numbers.{Span, span, half_span, half_box}
 use Rattle.boxes.specs.declared.half.Box.{Box}
-use Rattle.boxes.specs.declared.half.Child.{Child}
 use Rattle.boxes.specs.Claims.{BoxAllowed, ChildHalf}
-use Rattle.system.specs.Directions.{direction_number, direction_at, between}
-use Rattle.boxes.specs.Boxes.{as_box, from_box, box_ok, Allowed, refused, half_in, half_of, half_at}
+use Rattle.system.specs.Directions.{direction_at, between}
+use Rattle.boxes.specs.Boxes.{as_box, from_box, box_ok, Allowed, refused, half_in, half_of}
 use Rattle.system.proofs.Says.{Says, le_says, lt_says, and_says, each_says, says_as, and_left}
 
 -- ---- allowed boxes
@@ -37,51 +36,19 @@ position_small c k r = lt_of_lt_of_le (k.position_high r) (pow_mono (k.cuts_high
 pub part_within : (b : Box) → box_ok b ≡ true → (r : Three.Direction) → ((as_box b ! r).cuts ≤ 10) × ((as_box b ! r).position < 1024)
 part_within b t r = let k = (box_says b).fact t in (k.cuts_high r, position_small (as_box b) k r)
 
--- ---- which answer a half is
-pub half_child : (h : Half) (b : Box) (r : Three.Direction) → (as_box b ! r).cuts < 10 → half_in h b r ≡ Child.At (from_box (half_box h r (as_box b)))
-unfolding half_in
-half_child h b r q = simp (lt-ltb _ _ q)
-
-pub half_deepest : (h : Half) (b : Box) (r : Three.Direction) → 10 ≤ (as_box b ! r).cuts → half_in h b r ≡ refused
-unfolding half_in
-half_deepest h b r q = simp (le-ltb _ _ q)
-
-pub half_asked : (h : Half) (b : Box) (d : ℕ) → box_ok b && between 1 3 d ≡ true → half_of h b d ≡ half_in h b (direction_at d)
-unfolding half_of
-half_asked h b d p = simp p
-
-pub half_outside : (h : Half) (b : Box) (d : ℕ) → box_ok b && between 1 3 d ≡ false → half_of h b d ≡ refused
-unfolding half_of
-half_outside h b d p = simp p
-
--- the same of a direction by its number
-pub at_number : (r : Three.Direction) → direction_at (direction_number r) ≡ r
-at_number first = refl
-at_number second = refl
-at_number third = refl
-
-number_between : (r : Three.Direction) → between 1 3 (direction_number r) ≡ true
-number_between first = refl
-number_between second = refl
-number_between third = refl
-
-pub half_in_direction : (h : Half) (b : Box) (r : Three.Direction) → box_ok b ≡ true → half_of h b (direction_number r) ≡ half_in h b r
-half_in_direction h b r p =
-    half_asked h b (direction_number r) (rw (p, number_between r) refl) ∙ ap (half_in h b) (at_number r)
-
 -- ---- a child is bernstein's half of the box, and is allowed again
-child_of : (t u : Bool) (x y : Box) → cond t (cond u (Child.At x) refused) refused ≡ Child.At y → (t ≡ true) × (u ≡ true) × (x ≡ y)
+child_of : (t u : Bool) (x y : Box) → cond t (cond u (Ok x) refused) refused ≡ Ok y → (t ≡ true) × (u ≡ true) × (x ≡ y)
 child_of true true x y e = (refl, refl, cc)
 child_of true false x y e = let z : ◌≡◌ {A = ℕ} 0 1 = cc in absurd (omega arith)
 child_of false u x y e = let z : ◌≡◌ {A = ℕ} 0 1 = cc in absurd (omega arith)
 
-half_cases : (h : Half) (b c : Box) (d : ℕ) → half_of h b d ≡ Child.At c
+half_cases : (h : Half) (b c : Box) (d : ℕ) → half_of h b d ≡ Ok c
     → (box_ok b && between 1 3 d ≡ true) × (ltb (as_box b ! direction_at d).cuts 10 ≡ true) × (from_box (half_box h (direction_at d) (as_box b)) ≡ c)
 unfolding half_of half_in
 half_cases h b c d e =
     child_of (box_ok b && between 1 3 d) (ltb (as_box b ! direction_at d).cuts 10) (from_box (half_box h (direction_at d) (as_box b))) c e
 
-child_is : (h : Half) (b c : Box) (d : ℕ) → half_of h b d ≡ Child.At c → as_box c ≡ half_box h (direction_at d) (as_box b)
+child_is : (h : Half) (b c : Box) (d : ℕ) → half_of h b d ≡ Ok c → as_box c ≡ half_box h (direction_at d) (as_box b)
 child_is h b c d e = ap as_box (sym (half_cases h b c d e).2)
 
 -- what holds of the new span and of every old one holds of the box with it
@@ -110,7 +77,7 @@ half_allowed h r c k l = record {
   position_high = λ q. each_replaced (λ i. i.position < 2 ^ i.cuts) r q (half_span h (c ! r)) c (half_position h (c ! r) (k.position_high r)) k.position_high;
 }
 
-child_allowed : (h : Half) (b c : Box) (d : ℕ) → half_of h b d ≡ Child.At c → Allowed (as_box c)
+child_allowed : (h : Half) (b c : Box) (d : ℕ) → half_of h b d ≡ Ok c → Allowed (as_box c)
 child_allowed h b c d e =
     let k = half_cases h b c d e in
     rw (child_is h b c d e)
@@ -118,19 +85,3 @@ child_allowed h b c d e =
 
 pub child_half : ChildHalf
 child_half h b c d e = (child_is h b c d e, child_allowed h b c d e)
-
--- ---- the code's half: the cuts s and the position k of the box in direction r, a side, and the box with another part there
-side_half : (side : ℕ) (i : Span) → side ≤ 1 → span (i.cuts + 1) (2 * i.position + side) ≡ half_span (half_at side) i
-side_half zero i p = rw (add-one, add-zero)
-side_half (suc zero) i p = rw (add-one, add-one)
-side_half (suc (suc n)) i p = absurd (omega arith)
-
-module _ (b : Box) (r : Three.Direction) (s k : ℕ) (q : span s k ≡ as_box b ! r) where
-  pub part_cuts : s ≡ (as_box b ! r).cuts
-  part_cuts = ap (λ (x : Span). x.cuts) q
-
-  pub part_small : box_ok b ≡ true → k < 1024
-  part_small t = rw (ap (λ (x : Span). x.position) q) (part_within b t r).1
-
-  pub half_with : (side : ℕ) → side ≤ 1 → from_box (replace r (span (s + 1) (2 * k + side)) (as_box b)) ≡ from_box (half_box (half_at side) r (as_box b))
-  half_with side p = ap (λ (x : Span). from_box (replace r x (as_box b))) (side_half side (span s k) p ∙ ap (half_span (half_at side)) q)

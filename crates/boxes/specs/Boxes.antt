@@ -1,6 +1,6 @@
 -- A box by value and its halves (01, "The numbers of a box"): six numbers as the box of three spans, which boxes are allowed, and the half in a direction.
 -- Definitions only; that a child is the half that 01 says is `ChildHalf` in Claims.
-use Rattle.std.specs.Prelude.{ℕ, zero, suc, ◌^◌, ◌≤◌, ◌<◌, Bool, cond, ◌&&◌, leb, ltb}
+use Rattle.std.specs.Prelude.{ℕ, ◌^◌, ◌≤◌, ◌<◌, Bool, cond, ◌&&◌, leb, ltb, Result, Ok, Err}
 use Rattle.whole.specs.Half.{Half, lower, upper}
 use Rattle.bernstein.specs.Three
 use Rattle.bernstein.specs.Three.{three, ◌!◌, first, second, third}
@@ -10,14 +10,24 @@ use Rattle.system.specs.Directions.{direction_at, each, between}
 use Rattle.system.specs.Refusals.{at_start}
 use Rattle.system.specs.declared.refusal.Refusal.{Refusal}
 use Rattle.boxes.specs.declared.half.Direction.{Direction}
+use Rattle.boxes.specs.declared.half.Half as Code
 use Rattle.boxes.specs.declared.half.Box.{Box}
-use Rattle.boxes.specs.declared.half.Child.{Child}
+use Rattle.system.specs.declared.refusal.Refused.{Refused}
 
 -- ---- directions and boxes
 abbrev pub direction : Direction → Three.Direction
 direction Direction.First = first
 direction Direction.Second = second
 direction Direction.Third = third
+
+abbrev pub to_direction : Three.Direction → Direction
+to_direction first = Direction.First
+to_direction second = Direction.Second
+to_direction third = Direction.Third
+
+-- the direction of a number, or refusal 10 ("or outside directions 1 to 3")
+abbrev pub direction_from : ℕ → Result Direction Refused
+direction_from n = cond (between 1 3 n) (Ok (to_direction (direction_at n))) (Err (at_start Refusal.OutsideRules))
 
 abbrev pub as_box : Box → Numbers.Box
 as_box b = three (span b.s1 b.k1) (span b.s2 b.k2) (span b.s3 b.k3)
@@ -37,23 +47,23 @@ pub record Allowed (c : Numbers.Box) : Type 0 where
   pub position_high : (r : Three.Direction) → (c ! r).position < 2 ^ (c ! r).cuts
 
 -- ---- halves
-abbrev pub refused : Child
-refused = Child.Refused (at_start Refusal.OutsideRules)
+abbrev pub refused : Result Box Refused
+refused = Err (at_start Refusal.OutsideRules)
 
 -- "a half also at s = 10": in the direction asked for
-unfoldable pub half_in : Half → Box → Three.Direction → Child
-half_in h b r = cond (ltb (as_box b ! r).cuts 10) (Child.At (from_box (half_box h r (as_box b)))) refused
+unfoldable pub half_in : Half → Box → Three.Direction → Result Box Refused
+half_in h b r = cond (ltb (as_box b ! r).cuts 10) (Ok (from_box (half_box h r (as_box b)))) refused
 
 -- "or outside directions 1 to 3"
-unfoldable pub half_of : Half → Box → ℕ → Child
+unfoldable pub half_of : Half → Box → ℕ → Result Box Refused
 half_of h b d = cond (box_ok b && between 1 3 d) (half_in h b (direction_at d)) refused
 
 -- down a path: what is refused stays refused
-abbrev pub half_on : Half → Child → ℕ → Child
-half_on h (Child.At b) d = half_of h b d
-half_on h (Child.Refused w) d = Child.Refused w
+abbrev pub half_on : Half → Result Box Refused → ℕ → Result Box Refused
+half_on h (Ok b) d = half_of h b d
+half_on h (Err w) d = Err w
 
--- the half of a side: 0 is the lower one
-abbrev pub half_at : ℕ → Half
-half_at zero = lower
-half_at (suc side) = upper
+-- the code's word for a half
+abbrev pub as_half : Code.Half → Half
+as_half Code.Half.Lower = lower
+as_half Code.Half.Upper = upper

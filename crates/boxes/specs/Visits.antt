@@ -5,7 +5,8 @@ use Rattle.bernstein.specs.Points.{above, below}
 use Rattle.system.specs.Directions.{direction_number}
 use Rattle.boxes.specs.Boxes.{direction}
 use Rattle.boxes.specs.declared.half.Box.{Box}
-use Rattle.boxes.specs.declared.visit.Sign.{Sign}
+use Rattle.whole.specs.declared.Sign.{Sign}
+use Rattle.whole.specs.Side.{sign_number}
 use Rattle.boxes.specs.declared.visit.Outcome.{Outcome}
 use Rattle.boxes.specs.declared.visit.Visit.{Visit}
 use Rattle.boxes.specs.declared.visit.Word.{Word}
@@ -14,10 +15,6 @@ use Rattle.boxes.specs.declared.visit.Word.{Word}
 abbrev pub sign : Sign → Points.Sign
 sign Sign.Above = above
 sign Sign.Below = below
-
-abbrev pub sign_number : Sign → ℕ
-sign_number Sign.Above = 1
-sign_number Sign.Below = 2
 
 -- which case, then its values, filled up with 0: 1 dropped by a polynomial with a sign, 2 kept with a mark, 3 cut in a direction
 abbrev pub outcome_numbers : Outcome → List ℕ

@@ -1,22 +1,27 @@
-// A box by value, and its halves down a path: a child has the same methods, so a refusal travels along.
-ghost use Rattle.std.specs.Prelude.{◌≡◌, true, ◌≤◌};
-ghost use Rattle.whole.specs.Half as Half;
-ghost use Rattle.bernstein.specs.Three.{◌!◌, replace};
-ghost use Rattle.bernstein.specs.Numbers.{span, unit};
-ghost use Rattle.system.specs.Directions.{direction_number, direction_at};
-ghost use Rattle.boxes.specs.Boxes.{direction, as_box, from_box, span_ok, box_ok, refused, half_in, half_of, half_on, half_at};
+// A box by value, and its halves down a path.
+ghost use Rattle.std.specs.Prelude.{◌≡◌, ℕ, ◌<◌, Result};
+ghost use Rattle.whole.specs.Half.{Half, lower, upper};
+ghost use Rattle.bernstein.specs.Three.{three, ◌!◌, replace};
+ghost use Rattle.bernstein.specs.Numbers.{span, unit, half_span, half_box};
+ghost use Rattle.system.specs.Directions.{direction_number};
+ghost use Rattle.boxes.specs.Boxes.{direction, direction_from, as_half, as_box, from_box, span_ok, box_ok, half_of, half_on};
 
 use system::refusal::{Refusal, Refused};
-use system::test::{both, from_to};
 
-#[derive(Clone, Copy)]
+#[derive(Clone, Copy, PartialEq, Eq)]
 pub enum Direction {
     First,
     Second,
     Third,
 }
 
-#[derive(Clone, Copy)]
+#[derive(Clone, Copy, PartialEq, Eq)]
+pub enum Half {
+    Lower,
+    Upper,
+}
+
+#[derive(Clone, Copy, PartialEq, Eq)]
 pub struct Box {
     pub s1: u8,
     pub k1: u16,
@@ -24,12 +29,6 @@ pub struct Box {
     pub k2: u16,
     pub s3: u8,
     pub k3: u16,
-}
-
-#[derive(Clone, Copy)]
-pub enum Child {
-    At(Box),
-    Refused(Refused),
 }
 
 // What a box has in one direction.
@@ -40,10 +39,23 @@ struct Part {
 }
 
 impl Direction {
-    pub fn number(self) -> u8
-        ensures { result ≡ direction_number (direction self) }
+    // Of three values, one for each direction, the one of this direction.
+    pub fn of<T: Copy>(self, first: T, second: T, third: T) -> T
+        ensures { result ≡ three first second third ! direction self }
     {
         match self {
+            Direction::First => first,
+            Direction::Second => second,
+            Direction::Third => third,
+        }
+    }
+}
+
+impl From<Direction> for u8 {
+    ghost from_gives = { λ r n. n ≡ direction_number (direction r) };
+
+    fn from(r: Direction) -> u8 {
+        match r {
             Direction::First => 1,
             Direction::Second => 2,
             Direction::Third => 3,
@@ -51,31 +63,41 @@ impl Direction {
     }
 }
 
-fn direction_of(dir: u8) -> Direction
-    ensures { direction result ≡ direction_at dir }
-{
-    if dir == 1 {
-        return Direction::First;
+impl TryFrom<u8> for Direction {
+    type Error = Refused;
+
+    ghost try_from_gives = { λ n r. r ≡ direction_from n };
+
+    fn try_from(n: u8) -> Result<Self, Refused> {
+        match n {
+            1 => Ok(Direction::First),
+            2 => Ok(Direction::Second),
+            3 => Ok(Direction::Third),
+            _ => Err(Refusal::OutsideRules.at_start()),
+        }
     }
-    if dir == 2 {
-        return Direction::Second;
-    }
-    Direction::Third
 }
 
-fn part_ok(s: u8, k: u16) -> bool
-    ensures { result ≡ span_ok (span s k) }
-{
-    if s > 10 {
-        return false;
+impl Part {
+    fn ok(self) -> bool
+        ensures { result ≡ span_ok (span self.s self.k) }
+    {
+        self.s <= 10 && self.k < 1u16 << self.s
     }
-    k < (1u16 << s)
-}
 
-fn outside() -> Child
-    ensures { result ≡ refused }
-{
-    Child::Refused(Refusal::OutsideRules.at_start())
+    fn half(self, half: Half) -> Self
+        requires { (self.s < 10) × (self.k < 1024) }
+        ensures { span result.s result.k ≡ half_span (as_half half) (span self.s self.k) }
+    {
+        let side = match half {
+            Half::Lower => 0,
+            Half::Upper => 1,
+        };
+        Part {
+            s: self.s + 1,
+            k: 2 * self.k + side,
+        }
+    }
 }
 
 impl Box {
@@ -92,31 +114,21 @@ impl Box {
         }
     }
 
+    #[tactic(auto, unfolding(crate::specs::Boxes::box_ok))]
     pub fn ok(self) -> bool
         ensures { result ≡ box_ok self }
     {
-        both(
-            both(part_ok(self.s1, self.k1), part_ok(self.s2, self.k2)),
-            part_ok(self.s3, self.k3),
-        )
+        self.part(Direction::First).ok()
+            && self.part(Direction::Second).ok()
+            && self.part(Direction::Third).ok()
     }
 
     fn part(self, r: Direction) -> Part
         ensures { span result.s result.k ≡ as_box self ! direction r }
     {
-        match r {
-            Direction::First => Part {
-                s: self.s1,
-                k: self.k1,
-            },
-            Direction::Second => Part {
-                s: self.s2,
-                k: self.k2,
-            },
-            Direction::Third => Part {
-                s: self.s3,
-                k: self.k3,
-            },
+        Part {
+            s: r.of(self.s1, self.s2, self.s3),
+            k: r.of(self.k1, self.k2, self.k3),
         }
     }
 
@@ -140,68 +152,66 @@ impl Box {
         self
     }
 
-    // Side 0 is the lower half, 1 the upper.
-    fn half_in(self, r: Direction, side: u16) -> Child
-        requires { (side ≤ 1) × (box_ok self ≡ true) }
-        ensures { result ≡ half_in (half_at side) self (direction r) }
+    // The half of a box that may still be cut in direction r.
+    pub fn half_in(self, r: Direction, half: Half) -> Self
+        requires { ((as_box self ! direction r).cuts < 10) × ((as_box self ! direction r).position < 1024) }
+        ensures { result ≡ from_box (half_box (as_half half) (direction r) (as_box self)) }
     {
-        let i = self.part(r);
-        if i.s >= 10 {
-            return outside();
-        }
-        Child::At(self.with(
-            r,
-            Part {
-                s: i.s + 1,
-                k: 2 * i.k + side,
-            },
-        ))
+        self.with(r, self.part(r).half(half))
     }
 
-    fn half(self, dir: u8, side: u16) -> Child
-        requires { side ≤ 1 }
-        ensures { result ≡ half_of (half_at side) self dir }
+    #[tactic(auto, using(crate::proofs::Halves::part_within), unfolding(crate::specs::Boxes::half_of, crate::specs::Boxes::half_in))]
+    fn half(self, dir: u8, half: Half) -> Result<Box, Refused>
+        ensures { result ≡ half_of (as_half half) self dir }
     {
-        if both(self.ok(), from_to(1, 3, dir)) {
-            self.half_in(direction_of(dir), side)
+        let outside = Err(Refusal::OutsideRules.at_start());
+        if !self.ok() {
+            return outside;
+        }
+        let r = Direction::try_from(dir)?;
+        if self.part(r).s < 10 {
+            Ok(self.half_in(r, half))
         } else {
-            outside()
+            outside
         }
     }
 
-    pub fn lower(self, dir: u8) -> Child
-        ensures { result ≡ half_of Half.lower self dir }
+    // The direction is a number, as another one than 1 to 3 is refused too.
+    pub fn lower(self, dir: u8) -> Result<Box, Refused>
+        ensures { result ≡ half_of lower self dir }
     {
-        self.half(dir, 0)
+        self.half(dir, Half::Lower)
     }
 
-    pub fn upper(self, dir: u8) -> Child
-        ensures { result ≡ half_of Half.upper self dir }
+    pub fn upper(self, dir: u8) -> Result<Box, Refused>
+        ensures { result ≡ half_of upper self dir }
     {
-        self.half(dir, 1)
+        self.half(dir, Half::Upper)
     }
 }
 
-impl Child {
-    fn half_again(self, dir: u8, side: u16) -> Self
-        requires { side ≤ 1 }
-        ensures { result ≡ half_on (half_at side) self dir }
-    {
-        match self {
-            Child::At(b) => b.half(dir, side),
-            Child::Refused(w) => Child::Refused(w),
-        }
+// Down a path: the halves of a half, where what is refused stays refused.
+pub trait Halves: Sized {
+    ghost use Rattle.boxes.specs.declared.half.Box.{Box};
+    ghost use Rattle.system.specs.declared.refusal.Refused.{Refused};
+
+    ghost half: { Half → Self → ℕ → Result Box Refused };
+
+    fn lower(self, dir: u8) -> Result<Box, Refused>
+        ensures { result ≡ half lower self dir };
+
+    fn upper(self, dir: u8) -> Result<Box, Refused>
+        ensures { result ≡ half upper self dir };
+}
+
+impl Halves for Result<Box, Refused> {
+    ghost half = { half_on };
+
+    fn lower(self, dir: u8) -> Result<Box, Refused> {
+        self?.lower(dir)
     }
 
-    pub fn lower(self, dir: u8) -> Self
-        ensures { result ≡ half_on Half.lower self dir }
-    {
-        self.half_again(dir, 0)
-    }
-
-    pub fn upper(self, dir: u8) -> Self
-        ensures { result ≡ half_on Half.upper self dir }
-    {
-        self.half_again(dir, 1)
+    fn upper(self, dir: u8) -> Result<Box, Refused> {
+        self?.upper(dir)
     }
 }

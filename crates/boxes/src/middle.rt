@@ -1,7 +1,7 @@
 // The middle and the half width of a box in each direction, as doubles, exact.
 ghost use Rattle.std.specs.Prelude.{◌≡◌, ◌+◌, ◌^◌, ◌%◌, ◌≤◌, ◌<◌};
 ghost use Rattle.bernstein.specs.Numbers.{span};
-ghost use Rattle.boxes.specs.Middles.{over_power, middle, half_width, placed};
+ghost use Rattle.boxes.specs.Middles.{over_power, middle, half_width, placed, middle_numbers};
 
 use crate::half::Box;
 use system::refusal::{Refusal, Refused};
@@ -16,10 +16,13 @@ pub struct Middles {
     pub half3: f64,
 }
 
-#[derive(Clone, Copy)]
-pub enum Placed {
-    At(Middles),
-    Refused(Refused),
+// Of each direction its middle and its half width.
+impl From<Middles> for [f64; 6] {
+    ghost from_gives = { λ m x. x ≡ middle_numbers m };
+
+    fn from(m: Middles) -> [f64; 6] {
+        [m.middle1, m.half1, m.middle2, m.half2, m.middle3, m.half3]
+    }
 }
 
 // One direction.
@@ -41,7 +44,7 @@ fn over(m: u16, s: u8) -> f64
     requires { (s ≤ 10) × (m % 2 ≡ 1) }
     ensures { result ≡ over_power m s }
 {
-    (m as f64) / (power(s) as f64)
+    f64::from(m) / f64::from(power(s))
 }
 
 fn interval(s: u8, k: u16) -> Pair
@@ -55,16 +58,16 @@ fn interval(s: u8, k: u16) -> Pair
 }
 
 impl Box {
-    pub fn middles(self) -> Placed
+    pub fn middles(self) -> Result<Middles, Refused>
         ensures { result ≡ placed self }
     {
         if !self.ok() {
-            return Placed::Refused(Refusal::OutsideRules.at_start());
+            return Err(Refusal::OutsideRules.at_start());
         }
         let a = interval(self.s1, self.k1);
         let b = interval(self.s2, self.k2);
         let c = interval(self.s3, self.k3);
-        Placed::At(Middles {
+        Ok(Middles {
             middle1: a.middle,
             half1: a.half,
             middle2: b.middle,

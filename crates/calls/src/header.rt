@@ -1,106 +1,95 @@
-// The header of a call: twenty numbers. Each is tested before it becomes one of the library's types.
-use crate::input::{large, middling, number_at, small};
-use boxes::half::Box;
+// The header of a call: twenty numbers, each made into one of the library's types, in the order in which they stand.
+use crate::call::Call;
+use crate::ended::Ended;
+use crate::numbers::{next_field, next_number};
+use boxes::half::{Box, Half};
+use std::io::Read;
 use system::head::Head;
 use waiting::state::State;
 
-pub fn both(a: bool, b: bool) -> bool {
-    if a { b } else { false }
+// The bytes, numbers or records of each buffer.
+#[derive(Clone, Copy)]
+pub struct Lengths {
+    pub file: usize,
+    pub coefficients: usize,
+    pub store: usize,
+    pub list: usize,
 }
 
-fn from_to(low: u64, high: u64, x: u64) -> bool {
-    both(low <= x, x <= high)
+#[derive(Clone, Copy)]
+pub struct Header {
+    pub call: Call,
+    pub lengths: Lengths,
+    pub head: Head,
+    pub state: State,
+    pub budget: u32,
+    pub direction: u8,
+    pub half: Half,
+    pub at: Box,
+    pub offset: usize,
 }
 
-fn sizes_fit(b: &[u8]) -> bool {
-    both(
-        both(number_at(b, 1) <= 4096, number_at(b, 2) <= 200),
-        both(number_at(b, 3) <= 6200, number_at(b, 4) <= 64),
-    )
-}
-
-fn span_fits(s: u64, k: u64) -> bool {
-    both(s < 256, k < 65536)
-}
-
-fn box_fits(b: &[u8]) -> bool {
-    both(
-        span_fits(number_at(b, 13), number_at(b, 14)),
-        both(
-            span_fits(number_at(b, 15), number_at(b, 16)),
-            span_fits(number_at(b, 17), number_at(b, 18)),
-        ),
-    )
-}
-
-fn choices_fit(b: &[u8]) -> bool {
-    both(
-        number_at(b, 10) < 4294967296,
-        both(number_at(b, 11) < 256, number_at(b, 12) < 2),
-    )
-}
-
-// Whether there is such a call, and the library's types hold what it brings.
-pub fn fits(b: &[u8]) -> bool {
-    both(
-        both(from_to(1, 9, number_at(b, 0)), sizes_fit(b)),
-        both(choices_fit(b), box_fits(b)),
-    )
-}
-
-fn byte_at(b: &[u8], at: usize) -> u8 {
-    if at < b.len() { b[at] } else { 0 }
-}
-
-pub fn which(b: &[u8]) -> u8 {
-    byte_at(b, 0)
-}
-
-pub fn head_of(b: &[u8]) -> Head {
-    Head {
-        l: byte_at(b, 40),
-        m: byte_at(b, 41),
-        n1: byte_at(b, 42),
-        n2: byte_at(b, 43),
-        n3: byte_at(b, 44),
-        g1: byte_at(b, 45),
-        g2: byte_at(b, 46),
-        g3: byte_at(b, 47),
+impl Lengths {
+    fn read<R: Read>(from: &mut R) -> Result<Lengths, Ended> {
+        Ok(Lengths {
+            file: next_field(from)?,
+            coefficients: next_field(from)?,
+            store: next_field(from)?,
+            list: next_field(from)?,
+        })
     }
 }
 
-pub fn state_of(b: &[u8]) -> State {
-    State {
-        waiting: number_at(b, 6) as usize,
-        kept: number_at(b, 7) as usize,
-        visits: number_at(b, 8),
-        dropped: number_at(b, 9),
+fn head<R: Read>(from: &mut R) -> Result<Head, Ended> {
+    let mut bytes = [0; 8];
+    from.read_exact(&mut bytes)?;
+    Ok(Head::from(bytes))
+}
+
+fn state<R: Read>(from: &mut R) -> Result<State, Ended> {
+    Ok(State {
+        waiting: next_field(from)?,
+        kept: next_field(from)?,
+        visits: next_number(from)?,
+        dropped: next_number(from)?,
+    })
+}
+
+fn half<R: Read>(from: &mut R) -> Result<Half, Ended> {
+    match next_number(from)? {
+        0 => Ok(Half::Lower),
+        1 => Ok(Half::Upper),
+        _ => Err(Ended::NoCall),
     }
 }
 
-pub fn budget_of(b: &[u8]) -> u32 {
-    large(number_at(b, 10))
+fn a_box<R: Read>(from: &mut R) -> Result<Box, Ended> {
+    Ok(Box {
+        s1: next_field(from)?,
+        k1: next_field(from)?,
+        s2: next_field(from)?,
+        k2: next_field(from)?,
+        s3: next_field(from)?,
+        k3: next_field(from)?,
+    })
 }
 
-pub fn direction_of(b: &[u8]) -> u8 {
-    small(number_at(b, 11))
-}
-
-pub fn is_upper(b: &[u8]) -> bool {
-    number_at(b, 12) == 1
-}
-
-pub fn box_of(b: &[u8]) -> Box {
-    Box {
-        s1: small(number_at(b, 13)),
-        k1: middling(number_at(b, 14)),
-        s2: small(number_at(b, 15)),
-        k2: middling(number_at(b, 16)),
-        s3: small(number_at(b, 17)),
-        k3: middling(number_at(b, 18)),
+impl Header {
+    pub fn read<R: Read>(from: &mut R) -> Result<Header, Ended> {
+        let mut bytes = [0; 160];
+        from.read_exact(&mut bytes)?;
+        let mut fields = &bytes[..];
+        let from = &mut fields;
+        Ok(Header {
+            call: Call::try_from(next_number(from)?)?,
+            lengths: Lengths::read(from)?,
+            head: head(from)?,
+            state: state(from)?,
+            budget: next_field(from)?,
+            direction: next_field(from)?,
+            half: half(from)?,
+            at: a_box(from)?,
+            offset: next_field(from)?,
+        })
     }
-}
-
-pub fn offset_of(b: &[u8]) -> usize {
-    number_at(b, 19) as usize
 }

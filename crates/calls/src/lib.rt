@@ -1,10 +1,10 @@
-// The form of tests/reference/CALLS.md, for comparing programs: a call's bytes taken from the input, and its seven lines put into lent bytes.
+// The form of tests/reference/CALLS.md, for comparing programs: a call taken from its bytes, and its answer and its memory as text.
 #![tactic(auto)]
 
-pub mod answers;
+pub mod answer;
+pub mod call;
+pub mod ended;
 pub mod hash;
 pub mod header;
-pub mod input;
-pub mod show;
-pub mod text;
-pub mod told;
+pub mod memory;
+pub mod numbers;

@@ -7,37 +7,38 @@ mod filing;
 mod making;
 mod searching;
 
+use arrayvec::ArrayVec;
+use calls::ended::Ended;
+use calls::header::Header;
+use calls::memory::Room;
 use std::io::{Read, Write};
 
-// One call after another, up to the end of the input.
-fn all<R: Read, W: Write>(
+// A call, its answer and the memory after it are printed by one write: they have less than 400 bytes.
+fn one<R: Read, W: Write>(
     from: &mut R,
     to: &mut W,
-    file: &mut [u8],
-    coefficients: &mut [i64],
-    store: &mut [i64],
-    list: &mut [u16],
-) {
-    let mut index: u64 = 0;
-    while index < 4294967296 {
-        if !making::one(from, to, index, file, coefficients, store, list) {
-            return;
-        }
-        index += 1;
-    }
+    room: &mut Room,
+    index: u32,
+) -> Result<(), Ended> {
+    let header = Header::read(from)?;
+    let call = header.call;
+    let mut memory = room.filled(from, &header)?;
+    let answer = making::answer(&header, &mut memory);
+    let mut text = ArrayVec::<u8, 512>::new();
+    write!(text, "call {index} {call}\n{answer}\n{memory}")?;
+    Ok(to.write_all(text.as_slice())?)
 }
 
+// One call after another, up to the end of the input.
+fn all<R: Read, W: Write>(from: &mut R, to: &mut W) -> Result<(), Ended> {
+    let mut room = Room::new();
+    for index in 0..=u32::MAX {
+        one(from, to, &mut room, index)?;
+    }
+    Ok(())
+}
+
+// Why the calls end is not told.
 fn main(rt: HostRuntime) {
-    let mut file = [0u8; 4096];
-    let mut coefficients = [0i64; 200];
-    let mut store = [0i64; 6200];
-    let mut list = [0u16; 448];
-    all(
-        &mut rt.stdin(),
-        &mut rt.stdout(),
-        &mut file,
-        &mut coefficients,
-        &mut store,
-        &mut list,
-    );
+    let _ = all(&mut rt.stdin(), &mut rt.stdout());
 }

@@ -11,8 +11,8 @@ use Rattle.bernstein.specs.Points.{Has}
 use Rattle.bernstein.specs.Places.{size}
 use Rattle.system.specs.declared.head.Head.{Head}
 use Rattle.boxes.specs.declared.half.Direction.{Direction}
-use Rattle.boxes.specs.declared.visit.Sign.{Sign}
-use Rattle.boxes.specs.declared.visit.Sign.TheVariants.{Above, Below}
+use Rattle.whole.specs.declared.Sign.{Sign}
+use Rattle.whole.specs.declared.Sign.TheVariants.{Above, Below}
 use Rattle.system.specs.Heads.{degrees}
 use Rattle.boxes.specs.Visits.{sign}
 use Rattle.system.proofs.Heads.{size_low}

@@ -1,6 +1,6 @@
 -- The caller's `run` is one call of the lent machine and its `visit` one visit, or a refusal that changes nothing. Assumes nothing.
-use mathlib.Core.Path.{◌≡◌, refl, sym, ap, ap₂, subst, ◌∙◌}
-use mathlib.Core.Bool.{Bool, cond}
+use Rattle.std.specs.Prelude.{Some, unwrap_or, Result, Ok, Err, ⊤}
+use mathlib.Core.Path.{◌≡◌, refl, sym, ap, subst, ◌∙◌}
 use mathlib.Core.List.{List, map}
 use Prim.Native.Nat.{ℕ, suc, ◌≤◌}
 use native.Mathlib.Numerals.{add-one}
@@ -9,33 +9,32 @@ use lib.IntN.{ℤ}
 use lib.ListN.{length, length-map}
 use Rattle.bernstein.specs.Numbers.{Box}
 use Rattle.system.specs.declared.head.Head.{Head}
-use Rattle.system.specs.declared.head.Checked.{Checked}
-use Rattle.system.specs.declared.head.Checked.TheVariants.{Good, Refused as StoppedBy}
-use Rattle.boxes.specs.declared.visit.Visit as Seen
+use Rattle.system.specs.declared.refusal.Refused.{Refused}
+use Rattle.boxes.specs.declared.visit.Visit as Visit
+use Rattle.boxes.specs.declared.visit.Outcome.{Outcome}
 use Rattle.boxes.specs.declared.visit.Word.{Word}
 use Rattle.search.specs.Machine.{Machine, Turn, nothing, no_room, go, Stop, stop, finished, full, drive}
 use Rattle.search.specs.Search.{Entry}
 use Rattle.search.specs.Lent.{lent}
 use Rattle.search.proofs.Machine.{drive_nothing, drive_spent, drive_full, drive_go, go_waits, no_room_waits}
-use Rattle.runs.specs.declared.runs.Answer.{Answer}
-use Rattle.runs.specs.declared.visits.Answer as Visit
+use Rattle.runs.specs.declared.visits.Answer.{Answer}
 use Rattle.runs.specs.Runs.{Run, run_of}
-use Rattle.runs.specs.Visits.{One, visit_of}
+use Rattle.runs.specs.Visits.{One, told, visit_of}
 use Rattle.waiting.specs.declared.state.State.{State}
 use Rattle.waiting.specs.declared.cursor.Kept.{Kept}
 use Rattle.waiting.specs.declared.cursor.Cursor.{Cursor}
 use Rattle.waiting.specs.Cells.{boxed, cells}
 use Rattle.waiting.specs.States.{judged}
 use Rattle.waiting.specs.States.{memory_of, state_of}
-use Rattle.waiting.specs.Steps.{begun, due, seen}
+use Rattle.waiting.specs.Steps.{begun, halted, due, by_due, next, seen}
 use Rattle.waiting.specs.Runs.{Way, way, turned, went, forget, remember, Ends, OneTurn}
 use Rattle.waiting.proofs.Judging.{judged_allowed}
 use Rattle.waiting.proofs.Driving.{run_drives, turn_turns, remembered}
 use Rattle.claims.specs.Calls.{Memory, called}
-use Rattle.claims.specs.Caller.{Gives, RunIsACall, Tells, VisitIsAVisit, SameEffects, VisitIsARun, RefusalChangesNothing}
+use Rattle.claims.specs.Caller.{Leaves, Gives, RunIsACall, Tells, VisitIsAVisit, SameEffects, VisitIsARun, RefusalChangesNothing}
 
 -- those kept are there
-kept_there : (h : Head) (s : State) (list : List (Entry Box)) (st : List ℤ) → judged h s st (map forget list) ≡ Checked.Good → s.kept ≤ length list
+kept_there : (h : Head) (s : State) (list : List (Entry Box)) (st : List ℤ) → judged h s st (map forget list) ≡ Ok tt → s.kept ≤ length list
 kept_there h s list st e = omega (arith, ((judged_allowed h s st (map forget list)).0 e).2.kept_high, length-map list forget)
 
 pub run_is_a_call : RunIsACall
@@ -43,12 +42,13 @@ run_is_a_call h s budget list st e =
     let c = begun s budget (length list) in
     let d : Ends (went (boxed h) (suc budget) (way (map forget list) st c)) (called h budget (memory_of st list s)) = run_drives ℤ (boxed h) list st c refl refl (kept_there h s list st e) in
     rw (e, length-map list forget, add-one budget)
-    (record { answer = ap₂ (λ (w : Word) (k : State). Answer.Stopped (record { word = w; state = k })) d.word d.state; leaves = record { list = d.list; store = d.store } })
+    (record { answer = (λ i. Ok (record { word = unwrap_or (d.word i) Word.Spent; state = d.state i })); leaves = record { list = d.list; store = d.store } })
 
 -- ---- a visit
--- the answer, from the cursor after the step
-abbrev answer : Seen.Visit → Cursor → Visit.Answer
-answer v c = cond c.go (Visit.Answer.Saw (record { state = c.state; visit = v })) (Visit.Answer.Stopped c.word)
+-- where a step leaves a word, it made no visit
+stop_seen : (h : Head) (st : List ℤ) (c : Cursor) (w : Word) (d : Result Outcome Word) → (by_due (boxed h) st c d).cursor.word ≡ Some w → seen (boxed h) st c d ≡ Err w
+stop_seen h st c w (Err v) e = ap Err (cc e)
+stop_seen h st c w (Ok o) e = let z : ◌≡◌ {A = ℕ} 0 1 = cc e in absurd (omega arith)
 
 module _ (h : Head) (s : State) (list : List (Entry Box)) (st : List ℤ) where
   abbrev before : Cursor
@@ -57,15 +57,23 @@ module _ (h : Head) (s : State) (list : List (Entry Box)) (st : List ℤ) where
   abbrev after : Way ℤ
   after = turned (boxed h) (way (map forget list) st before)
 
-  abbrev told : Seen.Visit
-  told = seen (boxed h) st before (due (boxed h) st before)
+  abbrev found : Result Visit.Visit Word
+  found = seen (boxed h) st before (due (boxed h) st before)
 
-  tells : (t : Turn) → OneTurn (boxed h) list st before t → Tells (record { answer = answer told after.cursor; end = after }) h (memory_of st list s) t
-  tells nothing q = (ap (λ (w : Way ℤ). answer told w.cursor) q, record { list = ap (λ (w : Way ℤ). w.list) q; store = ap (λ (w : Way ℤ). w.store) q })
-  tells no_room q = (ap (λ (w : Way ℤ). answer told w.cursor) q, record { list = ap (λ (w : Way ℤ). w.list) q; store = ap (λ (w : Way ℤ). w.store) q })
+  -- nothing was moved
+  stopped : (w : Word) → after ≡ way (map forget list) st (halted before w)
+      → (◌≡◌ {A = Result Answer Refused} (Ok (told after.cursor.state found)) (Ok (Answer.Stopped w))) × Leaves after (memory_of st list s)
+  unfolding next
+  stopped w q = (
+    ap (λ (x : Result Visit.Visit Word). Ok (told after.cursor.state x)) (stop_seen h st before w (due (boxed h) st before) (ap (λ (v : Way ℤ). v.cursor.word) q)),
+    record { list = ap (λ (v : Way ℤ). v.list) q; store = ap (λ (v : Way ℤ). v.store) q },
+  )
+
+  tells : (t : Turn) → OneTurn (boxed h) list st before t → Tells (record { answer = Ok (told after.cursor.state found); end = after }) h (memory_of st list s) t
+  tells nothing q = stopped Word.Finished q
+  tells no_room q = stopped Word.Full q
   tells go q = (
-    ap (λ (b : Bool). cond b (Visit.Answer.Saw (record { state = after.cursor.state; visit = told })) (Visit.Answer.Stopped after.cursor.word)) q.0.goes
-        ∙ ap₂ (λ (k : State) (v : Seen.Visit). Visit.Answer.Saw (record { state = k; visit = v })) q.0.state q.1,
+    (λ i. Ok (told (q.0.state i) (q.1 i))),
     record { list = q.0.list; store = q.0.store },
   )
 
@@ -104,14 +112,14 @@ same_effects h s f v r k go e q g =
 pub visit_is_a_run : VisitIsARun
 visit_is_a_run h s list st = from (judged h s st list) refl
   where
-    entries : (k : List (Entry Box)) → judged h s st (map forget k) ≡ Checked.Good → SameEffects s (visit_of h s (map forget k) st) (run_of h s 1 (map forget k) st)
+    entries : (k : List (Entry Box)) → judged h s st (map forget k) ≡ Ok tt → SameEffects s (visit_of h s (map forget k) st) (run_of h s 1 (map forget k) st)
     entries k e = same_effects h s (memory_of st k s) _ _ refl ((lent (cells h)).turn (length k) (memory_of st k s)) refl (visit_is_a_visit h s k st e) (run_is_a_call h s 1 k st e)
 
-    from : (v : Checked) → judged h s st list ≡ v → SameEffects s (visit_of h s list st) (run_of h s 1 list st)
-    from Good e =
+    from : (v : Result ⊤ Refused) → judged h s st list ≡ v → SameEffects s (visit_of h s list st) (run_of h s 1 list st)
+    from (Ok u) e =
         subst (λ (l : List Kept). SameEffects s (visit_of h s l st) (run_of h s 1 l st)) (remembered list)
         (entries (map remember list) (ap (judged h s st) (remembered list) ∙ e))
-    from (StoppedBy x) e =
+    from (Err x) e =
         let q = refusal_changes_nothing h s list st x e in
         record {
           answers = rw ((q.0 1).0, q.1.0) refl;

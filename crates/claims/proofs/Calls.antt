@@ -1,5 +1,6 @@
 -- What the search over the boxes of a system keeps (`keeps`): fit slots, no zero lost, and a state that the check lets through. So it holds of lent memory
 -- whenever a call begins (`good`): search's induction over the calls. Assumes nothing.
+use Rattle.std.specs.Prelude.{Ok}
 use mathlib.Core.Path.{◌≡◌, ap, ◌∙◌}
 use mathlib.Core.List.{List, map}
 use Prim.Native.Nat.{ℕ, suc, ◌+◌, ◌*◌, ◌-◌, ◌^◌, ◌≤◌}
@@ -10,7 +11,6 @@ use lib.ListN.{length-map}
 use Rattle.whole.specs.Half.{Half, lower, upper}
 use Rattle.bernstein.specs.Numbers.{unit}
 use Rattle.system.specs.declared.head.Head.{Head}
-use Rattle.system.specs.declared.head.Checked.{Checked}
 use Rattle.system.specs.Heads.{depth, Limits}
 use Rattle.boxes.specs.Boxes.{direction}
 use Rattle.system.proofs.Heads.{depth_high}
@@ -87,7 +87,7 @@ unit_holds : (h : Head) (cs : List ℤ) (x : Point) → LiesIn h x unit → Lies
 unfolding unit_slot
 unit_holds h cs x i = i
 
-start_passable : (h : Head) (cs st : List ℤ) → start_check h cs st ≡ Checked.Good → Passable h (start (slots (cells h)) (unit_slot h cs))
+start_passable : (h : Head) (cs st : List ℤ) → start_check h cs st ≡ Ok tt → Passable h (start (slots (cells h)) (unit_slot h cs))
 unfolding unit_slot
 start_passable h cs st e =
     let a = start_passes h cs st e in
@@ -95,7 +95,7 @@ start_passable h cs st e =
     record { stands = record { allowed = (unit_allowed h a.limits cs a.in_range, tt); dropped_high = omega arith }; few = omega (arith, most) }
 
 -- ---- of a system that `start` accepts
-module _ (h : Head) (cs st : List ℤ) (e : start_check h cs st ≡ Checked.Good) where
+module _ (h : Head) (cs st : List ℤ) (e : start_check h cs st ≡ Ok tt) where
   abbrev pub kept_up : Invariant (cells h)
   kept_up = keeps h (start_passes h cs st e).limits cs
 
@@ -117,7 +117,7 @@ module _ (h : Head) (cs st : List ℤ) (e : start_check h cs st ≡ Checked.Good
 
 -- the check lets it through
 pub good_judged : (h : Head) (m : Limits h) (cs : List ℤ) (f : Memory) → Good (cells h) (keeps h m cs) f
-    → judged h (state_of f) f.store (map forget f.list) ≡ Checked.Good
+    → judged h (state_of f) f.store (map forget f.list) ≡ Ok tt
 good_judged h m cs f g =
     let most : 2 ^ suc (depth h) ≤ 2 ^ 31 = pow_mono {j = 31} (omega (arith, depth_high h m)) in
     let k : KeptIn h (memory_of f.store f.list (state_of f)) = record { enough = g.enough; stands = g.also.stands } in

@@ -7,7 +7,7 @@ use lib.IntN.{ℤ}
 use Rattle.waiting.specs.Starts.{fresh_store}
 use Rattle.waiting.proofs.Starting.{start_passes, fresh_held}
 use Rattle.system.specs.declared.head.Head.{Head}
-use Rattle.boxes.specs.declared.visit.Sign.{Sign}
+use Rattle.whole.specs.declared.Sign.{Sign}
 use Rattle.boxes.specs.declared.half.Direction.{Direction}
 use Rattle.boxes.specs.Boxes.{direction}
 use Rattle.system.specs.Heads.{width, Limits}

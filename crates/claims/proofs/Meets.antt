@@ -1,4 +1,5 @@
 -- Reached states are made of the calls that 01 asks for; E's system is followed to a second list, and 1/2 to a box that F prints. Assumes nothing.
+use Rattle.std.specs.Prelude.{Ok, Err, Result}
 use mathlib.Core.Path.{◌≡◌, refl, sym, ap, subst, subst₂, ◌∙◌}
 use mathlib.Core.Bool.{Bool, true, ◌&&◌}
 use mathlib.Core.List.{List, [], ◌∷◌, ◌++◌}
@@ -28,8 +29,7 @@ use Rattle.file.specs.Bytes.{byte, Bytes, signed32}
 use Rattle.file.specs.Records.{due as record_due}
 use Rattle.file.specs.Terms.{term, terms, coefficients}
 use Rattle.file.specs.Reading.{polynomial, ending, polynomials, numbers_of, checked, reads}
-use Rattle.file.specs.declared.reading.Answer as Read
-use Rattle.file.specs.declared.reading.Answer.TheVariants.{System, Refused as NotRead}
+use Rattle.system.specs.declared.refusal.Refused.{Refused}
 use Rattle.file.proofs.Tests.{both}
 use Rattle.file.proofs.Words.{any_bytes}
 use Rattle.waiting.proofs.Points.{any_zero}
@@ -99,23 +99,23 @@ F_bytes : Bytes F_file
 unfolding small
 F_bytes = any_bytes F_file (all_small F_file refl)
 
-F_read : reads F_file no_coefficients ≡ (Read.Answer.System (one 1 2), read_coefficients)
+F_read : reads F_file no_coefficients ≡ (Ok (one 1 2), read_coefficients)
 unfolding reads checked polynomials polynomial ending numbers_of record_due terms term coefficients signed32 head_ok place size places
 F_read = refl
 
 F_whole : Whole F_file
 F_whole = prints_finished F_file F_bytes (drop 8 F_lines) prints_F
 
-head_in : Read.Answer → Head
-head_in (System h) = h
-head_in (NotRead x) = one 0 0
+head_in : Result Head Refused → Head
+head_in (Ok h) = h
+head_in (Err x) = one 0 0
 
 F_head : F_whole.head ≡ one 1 2
 unfolding head_in
-F_head = ap (λ (r : Read.Answer × List ℤ). head_in r.0) (sym F_whole.read ∙ F_read)
+F_head = ap (λ (r : Result Head Refused × List ℤ). head_in r.0) (sym F_whole.read ∙ F_read)
 
 F_coefficients : F_whole.coefficients ≡ read_coefficients
-F_coefficients = ap (λ (r : Read.Answer × List ℤ). r.1) (sym F_whole.read ∙ F_read)
+F_coefficients = ap (λ (r : Result Head Refused × List ℤ). r.1) (sym F_whole.read ∙ F_read)
 
 pub half_is_printed : HalfIsPrinted
 unfolding half

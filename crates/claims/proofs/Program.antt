@@ -1,4 +1,5 @@
 -- What the program prints is what its one call leaves, or a refusal of the file: each report by the answer of the call before it. Assumes nothing.
+use Rattle.std.specs.Prelude.{Ok, Err, Result}
 use mathlib.Core.Path.{◌≡◌, refl, sym, ap, ap₂, subst, ◌∙◌}
 use mathlib.Core.Bool.{Bool, ◌&&◌}
 use mathlib.Core.List.{List, [], ◌∷◌, map, ◌++◌}
@@ -10,7 +11,6 @@ use lib.ListN.{length, take, replicate, length-map, length-replicate}
 use lib.Seq.{length-take-le}
 use Rattle.bernstein.specs.Numbers.{Box}
 use Rattle.system.specs.declared.head.Head.{Head}
-use Rattle.system.specs.declared.head.Checked.{Checked}
 use Rattle.system.specs.declared.refusal.Refused.{Refused}
 use Rattle.boxes.specs.declared.visit.Word.{Word}
 use Rattle.system.specs.Heads.{places, width, Limits}
@@ -30,9 +30,7 @@ use Rattle.waiting.specs.Runs.{forget, remember, word_of}
 use Rattle.runs.specs.Runs.{Run, run_of}
 use Rattle.file.specs.Bytes.{byte, Bytes}
 use Rattle.file.specs.Reading.{reads}
-use Rattle.file.specs.declared.reading.Answer as Read
 use Rattle.file.proofs.Lengths.{front_decides}
-use Rattle.file.specs.declared.reading.Answer.TheVariants.{System, Refused as NotRead}
 use Rattle.writing.specs.Writing.{all_in_range}
 use Rattle.writing.proofs.Claims.{in_limits}
 use Rattle.runs.specs.Lists.{first, taken, listed}
@@ -58,8 +56,8 @@ unfolding all_in_range every
 same_range [] = refl
 same_range (x ∷ xs) = ap (λ (b : Bool). within 1000000000 x && b) (same_range xs)
 
-accepted : (s : List ℕ) → Bytes s → (out st : List ℤ) (h : Head) (cs : List ℤ) → reads s out ≡ (System h, cs) → (Limits h → needed h ≤ length st)
-    → start_check h cs st ≡ Checked.Good
+accepted : (s : List ℕ) → Bytes s → (out st : List ℤ) (h : Head) (cs : List ℤ) → reads s out ≡ (Ok h, cs) → (Limits h → needed h ≤ length st)
+    → start_check h cs st ≡ Ok tt
 unfolding start_check
 accepted s b out st h cs e room =
     let i = in_limits s b out h cs e in
@@ -87,7 +85,7 @@ abbrev printed : Found → List ℕ
 printed f = told f.answer f.kept
 
 -- ---- a start and one call, with any budget and any places
-module _ (budget : ℕ) (h : Head) (cs st : List ℤ) (e : start_check h cs st ≡ Checked.Good) (list : List (Entry Box)) where
+module _ (budget : ℕ) (h : Head) (cs st : List ℤ) (e : start_check h cs st ≡ Ok tt) (list : List (Entry Box)) where
   abbrev stop : Stop Memory
   stop = called h budget (fresh h cs st list)
 
@@ -123,14 +121,14 @@ prints_refusal s x e = ap printed (sym (found_unread 1000000 s no_coefficients e
 pub prints_of_the_front : PrintsOfTheFront
 unfolding report found file_found
 prints_of_the_front s =
-    ap (λ (r : Read.Answer × List ℤ). printed (read_found 1000000 r.0 r.1 empty_store free_list)) (front_decides s no_coefficients 4096 (omega arith))
+    ap (λ (r : Result Head Refused × List ℤ). printed (read_found 1000000 r.0 r.1 empty_store free_list)) (front_decides s no_coefficients 4096 (omega arith))
 
 pub prints_a_run : PrintsARun
 unfolding report found
 prints_a_run s b h cs e =
     let room : Limits h → needed h ≤ length empty_store = λ m. omega (arith, (room_enough h m).1, length-replicate (31 * 198) (pos 0)) in
-    let a : start_check h cs empty_store ≡ Checked.Good = accepted s b no_coefficients empty_store h cs e room in
-    let read : ((reads s no_coefficients).0 ≡ System h) × ((reads s no_coefficients).1 ≡ cs) = (ap (λ r. r.0) e, ap (λ r. r.1) e) in
+    let a : start_check h cs empty_store ≡ Ok tt = accepted s b no_coefficients empty_store h cs e room in
+    let read : ((reads s no_coefficients).0 ≡ Ok h) × ((reads s no_coefficients).1 ≡ cs) = (ap (λ r. r.0) e, ap (λ r. r.1) e) in
     record {
       accepted = a;
       prints = ap printed (sym (found_read 1000000 s no_coefficients empty_store free_list (reads s no_coefficients).0 refl h cs (sym read.1) read.0))
@@ -157,7 +155,7 @@ none_waits h budget room s f finished e m = sym (stack_length (width h) f.waitin
 none_waits h budget room s f spent e m = let z : ◌≡◌ {A = ℕ} 0 1 = cc in absurd (omega arith)
 none_waits h budget room s f full e m = let z : ◌≡◌ {A = ℕ} 0 1 = cc in absurd (omega arith)
 
-module _ (h : Head) (cs st : List ℤ) (e : start_check h cs st ≡ Checked.Good) (f : Memory) (b : Begun h cs st f) (budget : ℕ) where
+module _ (h : Head) (cs st : List ℤ) (e : start_check h cs st ≡ Ok tt) (f : Memory) (b : Begun h cs st f) (budget : ℕ) where
   abbrev end : Memory
   end = (called h budget f).state
 
@@ -176,11 +174,11 @@ module _ (h : Head) (cs st : List ℤ) (e : start_check h cs st ≡ Checked.Good
 pub prints_finished : PrintsFinished
 prints_finished s b rest q = from (reads s no_coefficients).0 refl
   where
-    from : (r : Read.Answer) → (reads s no_coefficients).0 ≡ r → Whole s
-    from (NotRead x) e = absurd (not_refused x rest (sym (prints_refusal s x e) ∙ q))
-    from (System h) e =
+    from : (r : Result Head Refused) → (reads s no_coefficients).0 ≡ r → Whole s
+    from (Err x) e = absurd (not_refused x rest (sym (prints_refusal s x e) ∙ q))
+    from (Ok h) e =
         let cs : List ℤ = (reads s no_coefficients).1 in
-        let read : reads s no_coefficients ≡ (System h, cs) = ap (λ (a : Read.Answer). (a, cs)) e in
+        let read : reads s no_coefficients ≡ (Ok h, cs) = ap (λ (a : Result Head Refused). (a, cs)) e in
         let p = prints_a_run s b h cs read in
         let start : Memory = fresh h cs empty_store free in
         let f : Memory = (program_call h cs).state in

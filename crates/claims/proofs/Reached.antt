@@ -1,5 +1,6 @@
 -- Every state that a caller reaches is one of lent memory whenever a call begins, and the check lets it through: by induction over the caller's calls.
 -- Assumes nothing.
+use Rattle.std.specs.Prelude.{Result, Ok, Err, ⊤}
 use mathlib.Core.Path.{◌≡◌, refl, sym, ap, ap₂, subst, ◌∙◌}
 use mathlib.Core.List.{List, [], ◌∷◌, map, ◌++◌}
 use mathlib.Core.Logic.{◌⊎◌, inl, inr}
@@ -10,8 +11,7 @@ use lib.ListN.{length, take, drop, length-map}
 use lib.Seq.{take-append-le, take-take, length-take-le}
 use Rattle.bernstein.specs.Numbers.{Box}
 use Rattle.system.specs.declared.head.Head.{Head}
-use Rattle.system.specs.declared.head.Checked.{Checked}
-use Rattle.system.specs.declared.head.Checked.TheVariants.{Good as Passed, Refused as StoppedBy}
+use Rattle.system.specs.declared.refusal.Refused.{Refused}
 use Rattle.boxes.specs.Boxes.{as_box}
 use Rattle.system.specs.Heads.{width}
 use Rattle.slots.specs.Slots.{box_in}
@@ -21,7 +21,6 @@ use Rattle.search.specs.Claims.{Held}
 use Rattle.search.specs.Lent.{slot, stack, slots, memory, used, lent, at_start, continued}
 use Rattle.search.proofs.Calls.{Good, both}
 use Rattle.waiting.specs.declared.state.State.{State}
-use Rattle.waiting.specs.declared.start.Started.{Started}
 use Rattle.waiting.specs.declared.cursor.Kept.{Kept}
 use Rattle.waiting.specs.Cells.{cells}
 use Rattle.waiting.specs.Fits.{Fit, Point, LiesIn}
@@ -32,7 +31,6 @@ use Rattle.waiting.specs.Runs.{forget, remember}
 use Rattle.waiting.proofs.Driving.{remembered}
 use Rattle.waiting.proofs.Starting.{start_passes}
 use Rattle.runs.specs.declared.runs.Stop.{Stop}
-use Rattle.runs.specs.declared.runs.Answer as Run
 use Rattle.runs.specs.declared.visits.Seen.{Seen}
 use Rattle.runs.specs.declared.visits.Answer as Visit
 use Rattle.runs.specs.Runs.{run_of}
@@ -58,21 +56,21 @@ same_records (suc k) (e ∷ es) (x ∷ next) q =
 
 module _ (h : Head) (cs st : List ℤ) where
   -- ---- a start
-  started : (s : State) (list : List Kept) (v : Checked) → start_check h cs st ≡ v → start_answer v ≡ Started.Begun s → StandsFor h cs st s list (start_store h cs st v)
-  started s list Passed e a = record {
+  started : (s : State) (list : List Kept) (v : Result ⊤ Refused) → start_check h cs st ≡ v → start_answer v ≡ Ok s → StandsFor h cs st s list (start_store h cs st v)
+  started s list (Ok u) e a = record {
     accepted = e;
     memory = fresh h cs st (map remember list);
     begun = at_start (map remember list);
     shows = record { state = cc a; list_is = remembered list; store_is = refl };
   }
-  started s list (StoppedBy x) e a = let z : ◌≡◌ {A = ℕ} 0 1 = cc a in absurd (omega arith)
+  started s list (Err x) e a = let z : ◌≡◌ {A = ℕ} 0 1 = cc a in absurd (omega arith)
 
   -- ---- a call from lent memory f, whenever a call begins
-  module _ (e : start_check h cs st ≡ Checked.Good) (f : Memory) (b : Begun h cs st f) where
+  module _ (e : start_check h cs st ≡ Ok tt) (f : Memory) (b : Begun h cs st f) where
     shown_good : Good (cells h) (kept_up h cs st e) f
     shown_good = good h cs st e f b
 
-    pub passes : judged h (state_of f) f.store (map forget f.list) ≡ Checked.Good
+    pub passes : judged h (state_of f) f.store (map forget f.list) ≡ Ok tt
     passes = good_judged h (start_passes h cs st e).limits cs f shown_good
 
     module _ (budget : ℕ) where
@@ -85,7 +83,7 @@ module _ (h : Head) (cs st : List ℤ) where
       gives : Gives (run_of h (state_of f) budget (map forget f.list) f.store) h budget f
       gives = run_is_a_call h (state_of f) budget f.list f.store passes
 
-    ran : (budget : ℕ) (r : Stop) → (run_of h (state_of f) budget (map forget f.list) f.store).answer ≡ Run.Answer.Stopped r
+    ran : (budget : ℕ) (r : Stop) → (run_of h (state_of f) budget (map forget f.list) f.store).answer ≡ Ok r
         → StandsFor h cs st r.state (run_of h (state_of f) budget (map forget f.list) f.store).end.list (run_of h (state_of f) budget (map forget f.list) f.store).end.store
     ran budget r q = record {
       accepted = e;
@@ -99,7 +97,7 @@ module _ (h : Head) (cs st : List ℤ) where
     }
 
     -- a visit does what a run with a budget of one does
-    visited : (v : Seen) → (visit_of h (state_of f) (map forget f.list) f.store).answer ≡ Visit.Answer.Saw v
+    visited : (v : Seen) → (visit_of h (state_of f) (map forget f.list) f.store).answer ≡ Ok (Visit.Answer.Saw v)
         → StandsFor h cs st v.state (visit_of h (state_of f) (map forget f.list) f.store).end.list (visit_of h (state_of f) (map forget f.list) f.store).end.store
     visited v q =
         let x = visit_is_a_run h (state_of f) (map forget f.list) f.store in
@@ -151,11 +149,11 @@ pub reached_is_begun : ReachedIsBegun
 reached_is_begun h cs st _ _ _ (by_start s list e) = started h cs st s list (start_check h cs st) refl e
 reached_is_begun h cs st _ _ _ (by_run {s} {list} {store} p budget r e) =
     let t = reached_is_begun h cs st s list store p in
-    as_shown (λ s l k. (r : Stop) → (run_of h s budget l k).answer ≡ Run.Answer.Stopped r → StandsFor h cs st r.state (run_of h s budget l k).end.list (run_of h s budget l k).end.store)
+    as_shown (λ s l k. (r : Stop) → (run_of h s budget l k).answer ≡ Ok r → StandsFor h cs st r.state (run_of h s budget l k).end.list (run_of h s budget l k).end.store)
     t.memory s list store t.shows (ran h cs st t.accepted t.memory t.begun budget) r e
 reached_is_begun h cs st _ _ _ (by_visit {s} {list} {store} p v e) =
     let t = reached_is_begun h cs st s list store p in
-    as_shown (λ s l k. (v : Seen) → (visit_of h s l k).answer ≡ Visit.Answer.Saw v → StandsFor h cs st v.state (visit_of h s l k).end.list (visit_of h s l k).end.store)
+    as_shown (λ s l k. (v : Seen) → (visit_of h s l k).answer ≡ Ok (Visit.Answer.Saw v) → StandsFor h cs st v.state (visit_of h s l k).end.list (visit_of h s l k).end.store)
     t.memory s list store t.shows (visited h cs st t.accepted t.memory t.begun) v e
 reached_is_begun h cs st _ _ _ (with_longer {s} {list} {store} p next e l) =
     let t = reached_is_begun h cs st s list store p in
@@ -165,7 +163,7 @@ reached_is_begun h cs st _ _ _ (with_longer {s} {list} {store} p next e l) =
 pub never_refused : NeverRefused
 never_refused h cs st s list store p =
     let t = reached_is_begun h cs st s list store p in
-    as_shown (λ s l k. judged h s k l ≡ Checked.Good) t.memory s list store t.shows (passes h cs st t.accepted t.memory t.begun)
+    as_shown (λ s l k. judged h s k l ≡ Ok tt) t.memory s list store t.shows (passes h cs st t.accepted t.memory t.begun)
 
 -- ---- demands 2 and 3 of what a call left: a call with no budget leaves it so
 pub reached_exact : ReachedExact

@@ -1,4 +1,6 @@
 -- The outcome that the rules compute is the one that 01 states: which direction is due, what can be cut, and the steps in order. Assumes nothing.
+use Rattle.whole.specs.declared.Sign.{Sign}
+use Rattle.std.specs.Prelude.{Option, Some, None}
 use mathlib.Core.Path.{◌≡◌, refl, subst}
 use mathlib.Core.Bool.{Bool, true, false, cond, ◌&&◌}
 use mathlib.Core.List.{List}
@@ -20,8 +22,6 @@ use Rattle.boxes.specs.declared.visit.Outcome.{Outcome}
 use Rattle.boxes.specs.Boxes.{direction}
 use Rattle.system.specs.Directions.{direction_number}
 use Rattle.system.specs.Heads.{degrees, width}
-use Rattle.slots.specs.declared.Decision.{Decision}
-use Rattle.slots.specs.declared.Choice.{Choice}
 use Rattle.slots.specs.Slots.{numbers}
 use Rattle.slots.specs.Rules.{decided, better, chosen, limit, can_cut, able, by_choice, looked_by, looked}
 use Rattle.waiting.specs.Cells.{as_look}
@@ -55,26 +55,26 @@ module _ (h : Head) (l : List ℤ) (long : length l ≡ width h) where
     pub below : cuts h l r < most h l r
     pub before : (q : Direction) → number q ≤ k → cuts h l q < most h l q → Before r q
 
-  abbrev Best : ℕ → Choice → Type 0
-  Best k Choice.Nowhere = (q : Direction) → number q ≤ k → most h l q ≤ cuts h l q
-  Best k (Choice.Along r) = BestOne k r
+  abbrev Best : ℕ → Option Direction → Type 0
+  Best k None = (q : Direction) → number q ≤ k → most h l q ≤ cuts h l q
+  Best k (Some r) = BestOne k r
 
   -- direction r comes next
   module _ (k : ℕ) (r : Direction) (next : number r ≡ suc k) where
     up_to : (P : Direction → Type 0) → P r → ((q : Direction) → number q ≤ k → P q) → (q : Direction) → number q ≤ suc k → P q
     up_to P p f q b = by_lt (number q) (suc k) (λ c. f q (omega arith)) (λ c. subst P (number_once r q (omega arith)) p)
 
-    best : (c : Choice) → Best k c → Best (suc k) (better h l c r)
-    best Choice.Nowhere f = from (ltb (cuts h l r) (most h l r)) refl
+    best : (c : Option Direction) → Best k c → Best (suc k) (better h l c r)
+    best None f = from (ltb (cuts h l r) (most h l r)) refl
       where
-        from : (b : Bool) → ltb (cuts h l r) (most h l r) ≡ b → Best (suc k) (cond b (Choice.Along r) Choice.Nowhere)
+        from : (b : Bool) → ltb (cuts h l r) (most h l r) ≡ b → Best (suc k) (cond b (Some r) None)
         from true e = record {
           seen = omega arith;
           below = ltb-true _ _ e;
           before = up_to (λ q. cuts h l q < most h l q → Before r q) (λ b. inr (refl, omega arith)) (λ q n b. absurd (omega (arith, f q n)));
         }
         from false e = up_to (λ q. most h l q ≤ cuts h l q) (ltb-false _ _ e) f
-    best (Choice.Along p) f = from (ltb (cuts h l r) (most h l r)) (ltb (cuts h l r) (cuts h l p)) refl refl
+    best (Some p) f = from (ltb (cuts h l r) (most h l r)) (ltb (cuts h l r) (cuts h l p)) refl refl
       where
         -- what comes after p comes after r, where r has fewer cuts
         over : cuts h l r < cuts h l p → (q : Direction) → Before p q → Before r q
@@ -84,7 +84,7 @@ module _ (h : Head) (l : List ℤ) (long : length l ≡ width h) where
         stays : (cuts h l r < most h l r → Before p r) → BestOne (suc k) p
         stays d = record { seen = omega (arith, f.seen); below = f.below; before = up_to (λ q. cuts h l q < most h l q → Before p q) d f.before }
 
-        from : (b c : Bool) → ltb (cuts h l r) (most h l r) ≡ b → ltb (cuts h l r) (cuts h l p) ≡ c → Best (suc k) (cond (b && c) (Choice.Along r) (Choice.Along p))
+        from : (b c : Bool) → ltb (cuts h l r) (most h l r) ≡ b → ltb (cuts h l r) (cuts h l p) ≡ c → Best (suc k) (cond (b && c) (Some r) (Some p))
         from true true e d = record {
           seen = omega arith;
           below = ltb-true _ _ e;
@@ -96,7 +96,7 @@ module _ (h : Head) (l : List ℤ) (long : length l ≡ width h) where
   chosen_best : Best 3 (chosen h l)
   unfolding chosen
   chosen_best =
-      best 2 Third refl (better h l (better h l Choice.Nowhere First) Second) (best 1 Second refl (better h l Choice.Nowhere First) (best 0 First refl Choice.Nowhere (λ q n. absurd (none q n))))
+      best 2 Third refl (better h l (better h l None First) Second) (best 1 Second refl (better h l None First) (best 0 First refl None (λ q n. absurd (none q n))))
     where
       none : (q : Direction) → number q ≤ 0 → ⊥
       none First n = NatL.not-suc-le-zero n
@@ -122,23 +122,23 @@ module _ (h : Head) (l : List ℤ) (long : length l ≡ width h) where
 
   -- ---- the steps in order
   module _ (deep : (r : Direction) → cuts h l r ≤ most h l r) where
-    by_direction : MixedBelow h l h.m → (c : Choice) → Best 3 c → Says h l (as_look (by_choice (able h l) c))
-    by_direction m Choice.Nowhere b = (m, inl (refl, λ r. omega (arith, deep r, b r (every_one r))))
-    by_direction m (Choice.Along r) b = from (can_cut h (direction r) l) refl
+    by_direction : MixedBelow h l h.m → (c : Option Direction) → Best 3 c → Says h l (as_look (by_choice (able h l) c))
+    by_direction m None b = (m, inl (refl, λ r. omega (arith, deep r, b r (every_one r))))
+    by_direction m (Some r) b = from (can_cut h (direction r) l) refl
       where
         from : (t : Bool) → can_cut h (direction r) l ≡ t → Says h l (as_look (cond t (Outcome.Cut r) (Outcome.Kept 2)))
         from true e = (m, due b, small r e)
         from false e = (m, inr (refl, (r, due b, large r e)))
 
-    by_sign : (d : Decision) → Told h.m (size (degrees h)) 1 (numbers l) d → Says h l (as_look (looked_by h l d (able h l)))
-    by_sign (Decision.By p s) t = record {
+    by_sign : (d : Option (ℕ × Sign)) → Told h.m (size (degrees h)) 1 (numbers l) d → Says h l (as_look (looked_by h l d (able h l)))
+    by_sign (Some (p, s)) t = record {
       which = t.which;
       is_one = t.is_one;
       number = t.number;
       decides = one_sided h l long t.which t.is_one s t.decides;
       lowest = mixed h l long t.which (omega (arith, t.is_one)) t.lowest;
     }
-    by_sign Decision.Open t = by_direction (mixed h l long h.m (omega arith) t) (chosen h l) chosen_best
+    by_sign None t = by_direction (mixed h l long h.m (omega arith) t) (chosen h l) chosen_best
 
 pub rules_mean : RulesMean
 unfolding looked

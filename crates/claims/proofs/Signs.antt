@@ -1,4 +1,5 @@
 -- Which polynomial decides: the sign tests of the parts of a slot, as facts about its numbers. Assumes nothing.
+use Rattle.std.specs.Prelude.{Option, Some, None}
 use mathlib.Core.Path.{◌≡◌, refl, sym, ap, subst, ◌∙◌}
 use mathlib.Core.Bool.{Bool, true, false, cond}
 use mathlib.Core.List.{List, [], ◌∷◌}
@@ -12,11 +13,10 @@ use lib.Seq.{get_or-take, get_or-drop, drop-drop}
 use Rattle.bernstein.specs.Points.{Has}
 use Rattle.bernstein.specs.Places.{size}
 use Rattle.system.specs.declared.head.Head.{Head}
-use Rattle.boxes.specs.declared.visit.Sign.{Sign}
-use Rattle.boxes.specs.declared.visit.Sign.TheVariants.{Above, Below}
+use Rattle.whole.specs.declared.Sign.{Sign}
+use Rattle.whole.specs.declared.Sign.TheVariants.{Above, Below}
 use Rattle.system.specs.Heads.{degrees, places, width}
 use Rattle.boxes.specs.Visits.{sign}
-use Rattle.slots.specs.declared.Decision.{Decision}
 use Rattle.slots.specs.Slots.{at, numbers}
 use Rattle.slots.specs.Rules.{every, has, decided}
 use Rattle.slots.proofs.Decided.{every_at}
@@ -36,9 +36,9 @@ pub record FirstOne (count S p : ℕ) (xs : List ℤ) (q : ℕ) (s : Sign) : Typ
   pub decides : One S xs which s
   pub lowest : NoneBelow S xs which
 
-abbrev pub Told : (count S p : ℕ) (xs : List ℤ) → Decision → Type 0
-Told count S p xs (Decision.By q s) = FirstOne count S p xs q s
-Told count S p xs Decision.Open = NoneBelow S xs count
+abbrev pub Told : (count S p : ℕ) (xs : List ℤ) → Option (ℕ × Sign) → Type 0
+Told count S p xs (Some (q, s)) = FirstOne count S p xs q s
+Told count S p xs None = NoneBelow S xs count
 
 pub tell : (count S p : ℕ) (xs : List ℤ) → Told count S p xs (decided count S p xs)
 unfolding decided
@@ -65,18 +65,18 @@ tell (suc count) S p xs = from (every (has Above) (take S xs)) (every (has Below
     shift f g n m zero l Below e = is_not g (rw none at e)
     shift f g n m (suc u) l s e = m u (omega arith) s (subst (λ (X : Type 0). X) (sym (later u s)) e)
 
-    after : every (has Above) (take S xs) ≡ false → every (has Below) (take S xs) ≡ false → (d : Decision) → Told count S (suc p) (drop S xs) d → Told (suc count) S p xs d
-    after f g (Decision.By q s) t = record {
+    after : every (has Above) (take S xs) ≡ false → every (has Below) (take S xs) ≡ false → (d : Option (ℕ × Sign)) → Told count S (suc p) (drop S xs) d → Told (suc count) S p xs d
+    after f g (Some (q, s)) t = record {
       which = suc t.which;
       is_one = omega (arith, t.is_one);
       number = omega (arith, t.number);
       decides = subst (λ (X : Type 0). X) (later t.which s) t.decides;
       lowest = shift f g t.which t.lowest;
     }
-    after f g Decision.Open t = shift f g count t
+    after f g None t = shift f g count t
 
     from : (a b : Bool) → every (has Above) (take S xs) ≡ a → every (has Below) (take S xs) ≡ b → Told count S (suc p) (drop S xs) (decided count S (suc p) (drop S xs))
-        → Told (suc count) S p xs (cond a (Decision.By p Above) (cond b (Decision.By p Below) (decided count S (suc p) (drop S xs))))
+        → Told (suc count) S p xs (cond a (Some (p, Above)) (cond b (Some (p, Below)) (decided count S (suc p) (drop S xs))))
     from true b f g t = first Above f
     from false true f g t = first Below g
     from false false f g t = after f g (decided count S (suc p) (drop S xs)) t

@@ -1,5 +1,6 @@
 -- What calls leave alone: the slots above the waiting ones are zero, and what stands behind all slots, past the kept count, or was kept before stays as it was.
 -- By induction over the visits of a call, and over the calls. Assumes nothing.
+use Rattle.std.specs.Prelude.{Ok}
 use mathlib.Core.Path.{◌≡◌, refl, sym, ap, subst, ◌∙◌}
 use mathlib.Core.List.{List, ◌++◌, append_assoc}
 use Prim.Native.Nat.{ℕ, zero, suc, ◌+◌, ◌*◌, ◌-◌, ◌≤◌}
@@ -11,9 +12,8 @@ use lib.Seq.{drop_at, drop-drop, drop-set-lt, take-set-le}
 use Rattle.whole.specs.Half.{Half, lower, upper}
 use Rattle.bernstein.specs.Numbers.{Box}
 use Rattle.system.specs.declared.head.Head.{Head}
-use Rattle.system.specs.declared.head.Checked.{Checked}
 use Rattle.boxes.specs.declared.half.Direction.{Direction}
-use Rattle.boxes.specs.declared.visit.Sign.{Sign}
+use Rattle.whole.specs.declared.Sign.{Sign}
 use Rattle.boxes.specs.Boxes.{direction}
 use Rattle.system.specs.Heads.{depth, width, Limits}
 use Rattle.slots.specs.Slots.{half_slot, unit_slot}
@@ -143,7 +143,7 @@ module _ (h : Head) where
       }) budget g k refl x
 
 -- ---- from a start on
-module _ (h : Head) (cs st : List ℤ) (e : start_check h cs st ≡ Checked.Good) where
+module _ (h : Head) (cs st : List ℤ) (e : start_check h cs st ≡ Ok tt) where
   abbrev R : List ℤ
   R = drop (needed h) st
 

@@ -1,4 +1,5 @@
 -- The demands in what the caller holds: each from the demand on lent memory, through what the caller's calls give (Caller, Reached). Assumes nothing.
+use Rattle.std.specs.Prelude.{Ok}
 use mathlib.Core.Path.{◌≡◌, refl, sym, ap, subst, ◌∙◌}
 use mathlib.Core.List.{List, [], ◌∷◌, map}
 use mathlib.Core.Logic.{inl, inr}
@@ -9,8 +10,7 @@ use lib.ListN.{length, take, length-map, length-append}
 use lib.Seq.{take-append-le, take-take, length-take-le}
 use Rattle.bernstein.specs.Numbers.{Box}
 use Rattle.system.specs.declared.head.Head.{Head}
-use Rattle.system.specs.declared.head.Checked.{Checked}
-use Rattle.boxes.specs.declared.visit.Sign.{Sign}
+use Rattle.whole.specs.declared.Sign.{Sign}
 use Rattle.boxes.specs.declared.visit.Visit.{Visit}
 use Rattle.boxes.specs.declared.visit.Outcome.{Outcome}
 use Rattle.boxes.specs.Boxes.{as_box}
@@ -35,7 +35,6 @@ use Rattle.waiting.specs.Runs.{forget, remember, word_of}
 use Rattle.waiting.proofs.Driving.{remembered}
 use Rattle.waiting.proofs.Starting.{start_passes}
 use Rattle.runs.specs.declared.runs.Stop.{Stop}
-use Rattle.runs.specs.declared.runs.Answer as Ran
 use Rattle.runs.specs.declared.visits.Seen.{Seen}
 use Rattle.runs.specs.declared.visits.Answer as ToldAnswer
 use Rattle.runs.specs.Runs.{Run}
@@ -51,7 +50,7 @@ use Rattle.claims.proofs.Caller.{run_is_a_call, visit_is_a_visit, no_budget}
 use Rattle.claims.proofs.Reached.{take_map, as_shown, passes, reached_is_begun}
 
 -- ---- one call from a fresh start
-module _ (h : Head) (cs st : List ℤ) (e : start_check h cs st ≡ Checked.Good) where
+module _ (h : Head) (cs st : List ℤ) (e : start_check h cs st ≡ Ok tt) where
   first_gives : (budget : ℕ) (es : List (Entry Box)) → Gives (first_run h cs st budget (map forget es)) h budget (fresh h cs st es)
   first_gives budget es =
       rw e (run_is_a_call h fresh_state budget es (fresh_store h cs st) (good_judged h (start_passes h cs st e).limits cs (fresh h cs st es) (good h cs st e _ (at_start es))))
@@ -70,7 +69,7 @@ module _ (h : Head) (cs st : List ℤ) (e : start_check h cs st ≡ Checked.Good
         let n : f.kept ≡ again.kept = sym (ap (λ (u : Memory). u.kept) same) in
         record {
           word = w;
-          answer = g.answer ∙ ap (λ (u : Memory). Ran.Answer.Stopped (record { word = w; state = state_of u })) same;
+          answer = g.answer ∙ ap (λ (u : Memory). Ok (record { word = w; state = state_of u })) same;
           store_is = g.leaves.store ∙ ap (λ (u : Memory). u.store) same;
           kept_are = ap (take f.kept) g.leaves.list ∙ ap (λ (i : ℕ). take i (map forget again.list)) n ∙ take_map forget again.kept again.list
               ∙ ap (λ (u : Memory). map forget u.list) same ∙ sym (take_map forget f.kept f.list);
@@ -123,7 +122,7 @@ module _ (h : Head) (f g : Memory) (fits : f.kept ≤ length f.list) (fits' : g.
   }
 
 -- what holds where the lent machine stops holds of what the caller is given
-as_given : (P : State → List Kept → List ℤ → Type 0) {x : Run} {h : Head} {budget : ℕ} {f : Memory} → Gives x h budget f → (r : Stop) → x.answer ≡ Ran.Answer.Stopped r
+as_given : (P : State → List Kept → List ℤ → Type 0) {x : Run} {h : Head} {budget : ℕ} {f : Memory} → Gives x h budget f → (r : Stop) → x.answer ≡ Ok r
     → P (state_of (called h budget f).state) (map forget (called h budget f).state.list) (called h budget f).state.store → P r.state x.end.list x.end.store
 as_given P {x} {h} {budget} {f} g r q p =
     let s : state_of (called h budget f).state ≡ r.state = cc (sym g.answer ∙ q) in
@@ -136,7 +135,7 @@ runs_go_on h cs st st' e e' budget budget' list list' k k' =
     subst (λ (l : List Kept). Two l list') (remembered list) (subst (Two (map forget (map remember list))) (remembered list') two)
   where
     Two : List Kept → List Kept → Type 0
-    Two l l' = (r r' : Stop) → (first_run h cs st budget l).answer ≡ Ran.Answer.Stopped r → (first_run h cs st' budget' l').answer ≡ Ran.Answer.Stopped r'
+    Two l l' = (r r' : Stop) → (first_run h cs st budget l).answer ≡ Ok r → (first_run h cs st' budget' l').answer ≡ Ok r'
         → GoesOn h r.state (first_run h cs st budget l).end.list (first_run h cs st budget l).end.store r'.state (first_run h cs st' budget' l').end.list (first_run h cs st' budget' l').end.store
 
     es : List (Entry Box)
@@ -159,7 +158,7 @@ runs_go_on h cs st st' e e' budget budget' list list' k k' =
         (goes_on h f f' a.enough.kept_fits a'.enough.kept_fits (longer_goes_on h cs st st' e e' es es' budget budget' k longer)))
 
 -- ---- the sign that a visit tells
-module _ (h : Head) (cs st : List ℤ) (e : start_check h cs st ≡ Checked.Good) (f : Memory) (b : Begun h cs st f) where
+module _ (h : Head) (cs st : List ℤ) (e : start_check h cs st ≡ Ok tt) (f : Memory) (b : Begun h cs st f) where
   top_fit : (lent (cells h)).turn (length f.list) f ≡ go → Fit h cs (top (boxed h) f.store (state_of f))
   unfolding stack any_turn turn_top
   top_fit t = from f.waiting refl
@@ -169,7 +168,7 @@ module _ (h : Head) (cs st : List ℤ) (e : start_check h cs st ≡ Checked.Good
       from (suc n) w = slot_of (Fit h cs) (width h) f.waiting f.store (good h cs st e f b).waiting (f.waiting - 1) (omega arith)
 
   told_sign : (t : Turn) → (lent (cells h)).turn (length f.list) f ≡ t → Tells (visit_of h (state_of f) (map forget f.list) f.store) h f t
-      → (v : Seen) → (visit_of h (state_of f) (map forget f.list) f.store).answer ≡ ToldAnswer.Answer.Saw v → (p : ℕ) (g : Sign) → v.visit.what ≡ Outcome.Dropped p g
+      → (v : Seen) → (visit_of h (state_of f) (map forget f.list) f.store).answer ≡ Ok (ToldAnswer.Answer.Saw v) → (p : ℕ) (g : Sign) → v.visit.what ≡ Outcome.Dropped p g
       → OneSign h cs (as_box v.visit.at) p g
   told_sign nothing t q v a p g w = let z : ◌≡◌ {A = ℕ} 0 1 = cc (sym q.0 ∙ a) in absurd (omega arith)
   told_sign no_room t q v a p g w = let z : ◌≡◌ {A = ℕ} 0 1 = cc (sym q.0 ∙ a) in absurd (omega arith)
@@ -184,6 +183,6 @@ pub visit_tells_sign : VisitTellsSign
 visit_tells_sign h cs st s list store p v a q g w =
     let t = reached_is_begun h cs st s list store p in
     let f = t.memory in
-    as_shown (λ s l m. (v : Seen) → (visit_of h s l m).answer ≡ ToldAnswer.Answer.Saw v → (p : ℕ) (g : Sign) → v.visit.what ≡ Outcome.Dropped p g → OneSign h cs (as_box v.visit.at) p g) f s list store t.shows
+    as_shown (λ s l m. (v : Seen) → (visit_of h s l m).answer ≡ Ok (ToldAnswer.Answer.Saw v) → (p : ℕ) (g : Sign) → v.visit.what ≡ Outcome.Dropped p g → OneSign h cs (as_box v.visit.at) p g) f s list store t.shows
     (told_sign h cs st t.accepted f t.begun ((lent (cells h)).turn (length f.list) f) refl
     (visit_is_a_visit h (state_of f) f.list f.store (passes h cs st t.accepted f t.begun))) v a q g w

@@ -1,10 +1,9 @@
 -- What the caller's `run` and `visit` do: the definitions that their contracts cite are one call, and one visit, of the lent machine, after the checks in 01's
 -- order; a visit is a run with a budget of one; a refusal changes nothing. So the demands, which speak of the lent machine, speak of what the caller gets.
 -- Statements; the proofs are in proofs/Caller.
-use Rattle.std.specs.Prelude.{◌≡◌, List, map, ℕ, ℤ, length}
+use Rattle.std.specs.Prelude.{◌≡◌, List, map, ℕ, ℤ, length, Result, Ok, Err}
 use Rattle.bernstein.specs.Numbers.{Box}
 use Rattle.system.specs.declared.head.Head.{Head}
-use Rattle.system.specs.declared.head.Checked.{Checked}
 use Rattle.system.specs.declared.refusal.Refused.{Refused}
 use Rattle.boxes.specs.declared.visit.Word.{Word}
 use Rattle.slots.specs.Rules.{looked}
@@ -18,10 +17,9 @@ use Rattle.waiting.specs.States.{judged}
 use Rattle.waiting.specs.States.{memory_of, state_of}
 use Rattle.waiting.specs.Steps.{top, visit_of as seen_in}
 use Rattle.waiting.specs.Runs.{Way, forget, word_of}
-use Rattle.runs.specs.declared.runs.Answer.{Answer}
-use Rattle.runs.specs.declared.runs.Answer.TheVariants.{Stopped as Ran, Refused as NotRun}
+use Rattle.runs.specs.declared.runs.Stop.{Stop}
 use Rattle.runs.specs.declared.visits.Answer as Visit
-use Rattle.runs.specs.declared.visits.Answer.TheVariants.{Saw, Stopped as NotMade, Refused as NotVisited}
+use Rattle.runs.specs.declared.visits.Answer.TheVariants.{Saw, Stopped as NotMade}
 use Rattle.runs.specs.Runs.{Run, run_of}
 use Rattle.runs.specs.Visits.{One, visit_of}
 use Rattle.claims.specs.Calls.{Memory, called}
@@ -33,37 +31,37 @@ pub record Leaves (w : Way ℤ) (f : Memory) : Type 0 where
 
 -- ---- a run: the answer, the list and the store of a stop
 pub record Gives (r : Run) (h : Head) (budget : ℕ) (f : Memory) : Type 0 where
-  pub answer : r.answer ≡ Answer.Stopped (record { word = word_of (called h budget f).answer; state = state_of (called h budget f).state })
+  pub answer : r.answer ≡ Ok (record { word = word_of (called h budget f).answer; state = state_of (called h budget f).state })
   pub leaves : Leaves r.end (called h budget f).state
 
 -- for every list of entries that the records are
 abbrev pub RunIsACall : Type 0
-RunIsACall = (h : Head) (s : State) (budget : ℕ) (list : List (Entry Box)) (st : List ℤ) → judged h s st (map forget list) ≡ Checked.Good
+RunIsACall = (h : Head) (s : State) (budget : ℕ) (list : List (Entry Box)) (st : List ℤ) → judged h s st (map forget list) ≡ Ok tt
     → Gives (run_of h s budget (map forget list) st) h budget (memory_of st list s)
 
 -- ---- a visit, by what the rules say before it
 -- "Where nothing waits, or the box would be kept and the list has no room, it answers finished or full and changes nothing"; else the top box is visited, and
 -- told: that box and what the rules say of its numbers, with the state after the visit
 abbrev pub Tells : One → Head → Memory → Turn → Type 0
-Tells r h f nothing = (r.answer ≡ Visit.Answer.Stopped Word.Finished) × Leaves r.end f
-Tells r h f no_room = (r.answer ≡ Visit.Answer.Stopped Word.Full) × Leaves r.end f
+Tells r h f nothing = (r.answer ≡ Ok (Visit.Answer.Stopped Word.Finished)) × Leaves r.end f
+Tells r h f no_room = (r.answer ≡ Ok (Visit.Answer.Stopped Word.Full)) × Leaves r.end f
 Tells r h f go =
     let box = top (boxed h) f.store (state_of f) in
     let after = (lent (cells h)).visit f in
-    (r.answer ≡ Visit.Answer.Saw (record { state = state_of after; visit = seen_in (boxed h) box (looked h box) })) × Leaves r.end after
+    (r.answer ≡ Ok (Visit.Answer.Saw (record { state = state_of after; visit = seen_in (boxed h) box (looked h box) }))) × Leaves r.end after
 
 abbrev pub VisitIsAVisit : Type 0
-VisitIsAVisit = (h : Head) (s : State) (list : List (Entry Box)) (st : List ℤ) → judged h s st (map forget list) ≡ Checked.Good
+VisitIsAVisit = (h : Head) (s : State) (list : List (Entry Box)) (st : List ℤ) → judged h s st (map forget list) ≡ Ok tt
     → Tells (visit_of h s (map forget list) st) h (memory_of st list s) ((lent (cells h)).turn (length list) (memory_of st list s))
 
 -- what a visit and a run with a budget of one answer, from the state s: the same counts; the same word where no visit is made; the same refusal
-abbrev pub Agree : State → Visit.Answer → Answer → Type 0
-Agree s (Saw v) (Ran r) = v.state ≡ r.state
-Agree s (NotMade w) (Ran r) = (w ≡ r.word) × (s ≡ r.state)
-Agree s (NotVisited x) (Ran r) = ⊥
-Agree s (Saw v) (NotRun y) = ⊥
-Agree s (NotMade w) (NotRun y) = ⊥
-Agree s (NotVisited x) (NotRun y) = x ≡ y
+abbrev pub Agree : State → Result Visit.Answer Refused → Result Stop Refused → Type 0
+Agree s (Ok (Saw v)) (Ok r) = v.state ≡ r.state
+Agree s (Ok (NotMade w)) (Ok r) = (w ≡ r.word) × (s ≡ r.state)
+Agree s (Err x) (Ok r) = ⊥
+Agree s (Ok (Saw v)) (Err y) = ⊥
+Agree s (Ok (NotMade w)) (Err y) = ⊥
+Agree s (Err x) (Err y) = x ≡ y
 
 -- "Its refusals are a run's", and so is everything else that it does
 pub record SameEffects (s : State) (v : One) (r : Run) : Type 0 where
@@ -80,6 +78,6 @@ pub record Unmoved (w : Way ℤ) (list : List Kept) (st : List ℤ) : Type 0 whe
   pub store_stays : w.store ≡ st
 
 abbrev pub RefusalChangesNothing : Type 0
-RefusalChangesNothing = (h : Head) (s : State) (list : List Kept) (st : List ℤ) (x : Refused) → judged h s st list ≡ Checked.Refused x
-    → ((budget : ℕ) → ((run_of h s budget list st).answer ≡ Answer.Refused x) × Unmoved (run_of h s budget list st).end list st)
-    × (((visit_of h s list st).answer ≡ Visit.Answer.Refused x) × Unmoved (visit_of h s list st).end list st)
+RefusalChangesNothing = (h : Head) (s : State) (list : List Kept) (st : List ℤ) (x : Refused) → judged h s st list ≡ Err x
+    → ((budget : ℕ) → ((run_of h s budget list st).answer ≡ Err x) × Unmoved (run_of h s budget list st).end list st)
+    × (((visit_of h s list st).answer ≡ Err x) × Unmoved (visit_of h s list st).end list st)

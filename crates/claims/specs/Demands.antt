@@ -1,11 +1,10 @@
 -- The customer's demands on runs, each as a statement with his sentence above it, of every call from a fresh start and of its continuations (`Begun`).
 -- The definitions are those that the contracts cite; the proofs are in proofs/, each named as its statement.
-use Rattle.std.specs.Prelude.{◌≡◌, List, ◌++◌, ℕ, suc, ◌+◌, ◌*◌, ◌-◌, ◌≤◌, ◌<◌, ℤ, pos, length, take, drop, replicate}
+use Rattle.std.specs.Prelude.{◌≡◌, List, ◌++◌, ℕ, suc, ◌+◌, ◌*◌, ◌-◌, ◌≤◌, ◌<◌, ℤ, pos, length, take, drop, replicate, Ok}
 use Rattle.bernstein.specs.Numbers.{Box, unit}
 use Rattle.bernstein.specs.Points.{Has}
 use Rattle.system.specs.declared.head.Head.{Head}
-use Rattle.system.specs.declared.head.Checked.{Checked}
-use Rattle.boxes.specs.declared.visit.Sign.{Sign}
+use Rattle.whole.specs.declared.Sign.{Sign}
 use Rattle.system.specs.Heads.{depth, frame, width}
 use Rattle.boxes.specs.Visits.{sign}
 use Rattle.slots.specs.Slots.{box_in, polynomial, unit_slot}
@@ -24,7 +23,7 @@ use Rattle.claims.specs.Rules.{Says}
 
 -- Of every call on a system that `start` accepts: h and cs are its head and its coefficients, f is the lent memory that the call finds, budget its budget.
 abbrev pub EveryCall : ((h : Head) (cs : List ℤ) (f : Memory) (budget : ℕ) → Type 0) → Type 0
-EveryCall P = (h : Head) (cs st : List ℤ) → start_check h cs st ≡ Checked.Good → (f : Memory) → Begun h cs st f → (budget : ℕ) → P h cs f budget
+EveryCall P = (h : Head) (cs st : List ℤ) → start_check h cs st ≡ Ok tt → (f : Memory) → Begun h cs st f → (budget : ℕ) → P h cs f budget
 
 -- 2. "For each box that a run reaches, every stored number is the exact Bernstein coefficient of that polynomial on that box times the fixed scale":
 -- in every waiting slot at the stop (`Fit`: exact numbers, within M, cuts within the depths); and it is a slot that the check of a state allows (`SlotAllowed`: no s
@@ -88,7 +87,7 @@ DroppedOneSign = EveryCall (λ h cs f budget.
 -- "Of two runs made in one call each, for the same system and depths, the one given at least as many visits and as much list room begins its kept list with the
 -- other's whole list, and each of its kept or waiting boxes lies inside a kept or waiting box of the other"
 abbrev pub LongerGoesOn : Type 0
-LongerGoesOn = (h : Head) (cs st st' : List ℤ) → start_check h cs st ≡ Checked.Good → start_check h cs st' ≡ Checked.Good
+LongerGoesOn = (h : Head) (cs st st' : List ℤ) → start_check h cs st ≡ Ok tt → start_check h cs st' ≡ Ok tt
     → (list list' : List (Entry Box)) (budget budget' : ℕ) → budget ≤ budget' → length list ≤ length list'
     → Further (slots (cells h)) (InsideBox h) (boxes_of h (called h budget (fresh h cs st list)).state)
     (boxes_of h (called h budget' (fresh h cs st' list')).state)
@@ -111,7 +110,7 @@ SlotsEnough = EveryCall (λ h cs f budget. (called h budget f).state.waiting ≤
 -- "A slot given up is set to zero", "and nothing beyond": at every stop all slots above the waiting ones are zero, up to D + 1 slots, and what stood behind them
 -- before the start stands there still
 abbrev pub StoreBeyond : Type 0
-StoreBeyond = (h : Head) (cs st : List ℤ) → start_check h cs st ≡ Checked.Good → (f : Memory) → Begun h cs st f → (budget : ℕ)
+StoreBeyond = (h : Head) (cs st : List ℤ) → start_check h cs st ≡ Ok tt → (f : Memory) → Begun h cs st f → (budget : ℕ)
     → let g = (called h budget f).state in
     drop (g.waiting * width h) g.store ≡ replicate ((suc (depth h) - g.waiting) * width h) (pos 0) ++ drop (needed h) st
 
@@ -125,6 +124,6 @@ ListBeyond = EveryCall (λ h cs f budget. ListStays f (called h budget f).state)
 
 -- "it then ends in the state that one fresh call reaches with all the visits made and the last list": both stores, every slot and every kept entry, and the counts
 abbrev pub Continued : Type 0
-Continued = (h : Head) (cs st : List ℤ) → start_check h cs st ≡ Checked.Good → (f : Memory) → Begun h cs st f
+Continued = (h : Head) (cs st : List ℤ) → start_check h cs st ≡ Ok tt → (f : Memory) → Begun h cs st f
     → (budget : ℕ) (list : List (Entry Box)) → length list ≡ length f.list
     → used (called h (called h budget f).state.visits (fresh h cs st list)).state ≡ used (called h budget f).state

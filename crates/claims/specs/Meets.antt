@@ -1,11 +1,10 @@
 -- Nothing that stands left of an arrow in the demands is empty. Every point, every common zero and every list of bytes is one: `AnyPoint` and `AnyZero` of
 -- waiting/Fits, `AnyBytes` of file/Bytes. Here: every start, call and longer list leads to a state that was reached; and 1/2, the zero of E's system, goes
 -- through the demands to a box that F prints. Statements; the proofs are in proofs/Meets.
-use Rattle.std.specs.Prelude.{◌≡◌, List, ◌∷◌, ℕ, ◌≤◌, ℤ, pos, negsuc, length, take, replicate}
+use Rattle.std.specs.Prelude.{◌≡◌, List, ◌∷◌, ℕ, ◌≤◌, ℤ, pos, negsuc, length, take, replicate, Ok}
 use Rattle.bernstein.specs.Three.{three}
 use Rattle.bernstein.specs.Numbers.{Box, unit}
 use Rattle.system.specs.declared.head.Head.{Head}
-use Rattle.system.specs.declared.head.Checked.{Checked}
 use Rattle.boxes.specs.Boxes.{as_box}
 use Rattle.search.specs.Lists.{Any}
 use Rattle.search.specs.Search.{Entry}
@@ -17,7 +16,6 @@ use Rattle.waiting.specs.States.{needed}
 use Rattle.waiting.specs.Steps.{nothing_kept}
 use Rattle.waiting.specs.Starts.{start_check, fresh_state, fresh_store}
 use Rattle.runs.specs.declared.runs.Stop.{Stop}
-use Rattle.runs.specs.declared.runs.Answer as Run
 use Rattle.runs.specs.declared.visits.Seen.{Seen}
 use Rattle.runs.specs.declared.visits.Answer as Visit
 use Rattle.runs.specs.Runs.{run_of}
@@ -30,14 +28,14 @@ use Rattle.claims.specs.Starred.{one, e}
 
 -- ---- what a caller reaches: after a start that is not refused, after every run and every visit, and with every longer list
 abbrev pub StartReaches : Type 0
-StartReaches = (h : Head) (cs st : List ℤ) → start_check h cs st ≡ Checked.Good → (list : List Kept) → Reached h cs st fresh_state list (fresh_store h cs st)
+StartReaches = (h : Head) (cs st : List ℤ) → start_check h cs st ≡ Ok tt → (list : List Kept) → Reached h cs st fresh_state list (fresh_store h cs st)
 
 module _ (h : Head) (cs st : List ℤ) (s : State) (list : List Kept) (store : List ℤ) where
   abbrev pub GoesOn : Type 0
   GoesOn =
-      ((budget : ℕ) (r : Stop) → (run_of h s budget list store).answer ≡ Run.Answer.Stopped r
+      ((budget : ℕ) (r : Stop) → (run_of h s budget list store).answer ≡ Ok r
       → Reached h cs st r.state (run_of h s budget list store).end.list (run_of h s budget list store).end.store)
-      × ((v : Seen) → (visit_of h s list store).answer ≡ Visit.Answer.Saw v
+      × ((v : Seen) → (visit_of h s list store).answer ≡ Ok (Visit.Answer.Saw v)
       → Reached h cs st v.state (visit_of h s list store).end.list (visit_of h s list store).end.store)
       × ((next : List Kept) → take s.kept list ≡ take s.kept next → length list ≤ length next → Reached h cs st s next store)
 

@@ -1,9 +1,8 @@
 -- What the desk program prints, joined to the demands: a refusal of the file, or one call from a fresh start (`Demands`), whose state and stores a caller reaches
 -- (`Reached`). `report` is what the contracts of `desk::search` and `desk::tell` give together. Statements; the proofs are in proofs/Program, that of F in proofs/Starred.
-use Rattle.std.specs.Prelude.{◌≡◌, List, [], ◌∷◌, map, ◌++◌, ℕ, ◌*◌, ℤ, pos, length, take, replicate}
+use Rattle.std.specs.Prelude.{◌≡◌, List, [], ◌∷◌, map, ◌++◌, ℕ, ◌*◌, ℤ, pos, length, take, replicate, Ok, Err}
 use Rattle.bernstein.specs.Numbers.{Box, unit}
 use Rattle.system.specs.declared.head.Head.{Head}
-use Rattle.system.specs.declared.head.Checked.{Checked}
 use Rattle.system.specs.declared.refusal.Refused.{Refused}
 use Rattle.boxes.specs.declared.visit.Word.{Word}
 use Rattle.boxes.specs.Boxes.{as_box}
@@ -19,7 +18,6 @@ use Rattle.runs.specs.Tables.{box_of}
 use Rattle.runs.specs.Lists.{first}
 use Rattle.file.specs.Bytes.{Bytes}
 use Rattle.file.specs.Reading.{reads}
-use Rattle.file.specs.declared.reading.Answer as Read
 use Rattle.desk.specs.Lines.{word, refusal_line, stop_line, kept_lines}
 use Rattle.desk.specs.Report.{report}
 use Rattle.claims.specs.Calls.{Memory, fresh, called, boxes_of}
@@ -41,7 +39,7 @@ program_call h cs = called h 1000000 (fresh h cs empty_store free)
 
 -- ---- "or `refused N at OFFSET`": with the number and the offset that reading the file gives
 abbrev pub PrintsRefusal : Type 0
-PrintsRefusal = (s : List ℕ) (x : Refused) → (reads s no_coefficients).0 ≡ Read.Answer.Refused x → report s ≡ refusal_line x
+PrintsRefusal = (s : List ℕ) (x : Refused) → (reads s no_coefficients).0 ≡ Err x → report s ≡ refusal_line x
 
 -- ---- "Prints the answer word, visits, dropped, kept, waiting; then per kept box s1 k1 s2 k2 s3 k3 mark"
 -- of memory as a call left it, with the call's answer: the kept boxes are those that the demands speak of
@@ -50,12 +48,12 @@ lines_of h w f = stop_line (word_of w) f.visits f.dropped f.kept f.waiting ++ ke
 
 -- A file that reads is not refused afterwards. The start accepts it, so every demand holds of the program's call; and that call is what is printed.
 pub record Printed (s : List ℕ) (h : Head) (cs : List ℤ) : Type 0 where
-  pub accepted : start_check h cs empty_store ≡ Checked.Good
+  pub accepted : start_check h cs empty_store ≡ Ok tt
   pub prints : report s ≡ lines_of h (program_call h cs).answer (program_call h cs).state
   pub reached : let f = (program_call h cs).state in Reached h cs empty_store (state_of f) (map forget f.list) f.store
 
 abbrev pub PrintsARun : Type 0
-PrintsARun = (s : List ℕ) → Bytes s → (h : Head) (cs : List ℤ) → reads s no_coefficients ≡ (Read.Answer.System h, cs) → Printed s h cs
+PrintsARun = (s : List ℕ) → Bytes s → (h : Head) (cs : List ℤ) → reads s no_coefficients ≡ (Ok h, cs) → Printed s h cs
 
 -- ---- "The answer says whether the list is short or whole, and how many boxes wait": what `finished` at the head of the printed bytes means.
 -- The file is a system, 0 boxes wait, as many boxes are printed as are counted, and every common zero of the unit box lies in one of them.
@@ -65,7 +63,7 @@ finished_lines visits dropped boxes = stop_line Word.Finished visits dropped (le
 pub record Whole (s : List ℕ) : Type 0 where
   pub head : Head
   pub coefficients : List ℤ
-  pub read : reads s no_coefficients ≡ (Read.Answer.System head, coefficients)
+  pub read : reads s no_coefficients ≡ (Ok head, coefficients)
   pub visits : ℕ
   pub dropped : ℕ
   pub boxes : List Kept

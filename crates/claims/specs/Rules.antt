@@ -5,7 +5,7 @@ use Rattle.bernstein.specs.Three.{◌!◌}
 use Rattle.bernstein.specs.Points.{Has}
 use Rattle.system.specs.declared.head.Head.{Head}
 use Rattle.boxes.specs.declared.half.Direction.{Direction}
-use Rattle.boxes.specs.declared.visit.Sign.{Sign}
+use Rattle.whole.specs.declared.Sign.{Sign}
 use Rattle.boxes.specs.Boxes.{direction}
 use Rattle.system.specs.Directions.{direction_number}
 use Rattle.system.specs.Heads.{depths, frame, places, width}

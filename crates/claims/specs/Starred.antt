@@ -1,10 +1,10 @@
 -- 01's starred examples A, B, C and E, and its limits, as one list of cases and one statement over it: starting numbers, halves, what a start and a run answer,
 -- and on both sides of each limit what the checks and the rules say, by the definitions that the contracts cite. The proof computes them.
-use Rattle.std.specs.Prelude.{◌≡◌, Bool, true, false, List, [], ◌∷◌, ◌++◌, ℕ, ◌+◌, ◌*◌, ℤ, pos, negsuc, take, set, replicate}
+use Rattle.std.specs.Prelude.{◌≡◌, Bool, true, false, List, [], ◌∷◌, ◌++◌, ℕ, ◌+◌, ◌*◌, ℤ, pos, negsuc, take, set, replicate, Result, Ok, Err, ⊤}
 use Rattle.whole.specs.Half.{Half, lower, upper}
 use Rattle.bernstein.specs.Three.{Direction, first, Three, three}
 use Rattle.system.specs.declared.head.Head.{Head}
-use Rattle.system.specs.declared.head.Checked.{Checked}
+use Rattle.system.specs.declared.refusal.Refused.{Refused}
 use Rattle.boxes.specs.declared.visit.Word.{Word}
 use Rattle.system.specs.declared.refusal.Refusal.{Refusal}
 use Rattle.system.specs.Heads.{checked}
@@ -13,14 +13,11 @@ use Rattle.slots.specs.Slots.{start_numbers, half_numbers}
 use Rattle.slots.specs.Rules.{can_cut}
 use Rattle.search.specs.Lists.{All}
 use Rattle.waiting.specs.declared.state.State.{State}
-use Rattle.waiting.specs.declared.start.Started.{Started}
 use Rattle.waiting.specs.States.{needed, judged}
 use Rattle.waiting.specs.Starts.{start_check, start_answer, start_store, fresh_state}
 use Rattle.waiting.specs.Steps.{nothing_kept}
-use Rattle.runs.specs.declared.runs.Answer.{Answer}
 use Rattle.runs.specs.Runs.{run_of}
 use Rattle.file.specs.Reading.{reads}
-use Rattle.file.specs.declared.reading.Answer as Read
 use Rattle.desk.specs.Lines.{stop_line}
 use Rattle.claims.specs.Program.{F_file}
 
@@ -36,9 +33,9 @@ pub data Case : Type 0 where
   -- what a run answers after a start: the word, visits, dropped, kept, waiting
   stops : Head → (coefficients : List ℤ) (budget room : ℕ) → Word → (visits dropped kept waiting : ℕ) → Case
   -- what a start says of a head and coefficients that are all the same
-  accepts : Head → ℤ → Checked → Case
+  accepts : Head → ℤ → Result ⊤ Refused → Case
   -- what a run says of a state with one waiting box and one number, after so many visits
-  allows : (number : ℤ) (visits : ℕ) → Checked → Case
+  allows : (number : ℤ) (visits : ℕ) → Result ⊤ Refused → Case
   -- whether a box in one variable can be cut, where its numbers are all the same
   cuts : (degree : ℕ) (number : ℤ) → Bool → Case
   -- with which number, and at which offset a file is refused
@@ -48,21 +45,21 @@ pub data Case : Type 0 where
   tells : Word → (visits dropped kept waiting : ℕ) → (line : List ℕ) → Case
 
 abbrev pub Right : Case → Type 0
-Right (starts h cs xs) = (checked h ≡ Checked.Good) × (start_numbers h cs ≡ xs)
+Right (starts h cs xs) = (checked h ≡ Ok tt) × (start_numbers h cs ≡ xs)
 Right (halves h e r xs ys) = half_numbers h e r xs ≡ ys
 Right (stops h cs budget room word visits dropped kept waiting) =
     let st = replicate (needed h) (pos 0) in
     let tested = start_check h cs st in
-    (start_answer tested ≡ Started.Begun fresh_state)
+    (start_answer tested ≡ Ok fresh_state)
     × ((run_of h fresh_state budget (replicate room nothing_kept) (start_store h cs st tested)).answer
-    ≡ Answer.Stopped (record { word = word; state = record { waiting = waiting; kept = kept; visits = visits; dropped = dropped } }))
+    ≡ Ok (record { word = word; state = record { waiting = waiting; kept = kept; visits = visits; dropped = dropped } }))
 Right (accepts h c v) = start_check h (replicate (3 * 64) c) (replicate (31 * 198) (pos 0)) ≡ v
 Right (allows x visits v) =
     let s : State = record { waiting = 1; kept = 0; visits = visits; dropped = 0 } in
     judged (one 0 0) s (replicate 6 (pos 0) ++ (x ∷ [])) [] ≡ v
 Right (cuts n x b) = can_cut (one n 1) first (replicate (7 + n) x) ≡ b
 Right (numbered w n) = number w ≡ n
-Right (refuses s w offset) = (reads s []).0 ≡ Read.Answer.Refused (record { why = w; at = offset })
+Right (refuses s w offset) = (reads s []).0 ≡ Err (record { why = w; at = offset })
 Right (tells w visits dropped kept waiting line) = stop_line w visits dropped kept waiting ≡ line
 
 -- and in two
@@ -82,8 +79,8 @@ abbrev -4 : ℤ
 abbrev of : (l m : ℕ) (n g : Three ℕ) → Head
 of l m n g = record { l = l; m = m; n1 = n.x₁; n2 = n.x₂; n3 = n.x₃; g1 = g.x₁; g2 = g.x₂; g3 = g.x₃ }
 
-abbrev no : Refusal → Checked
-no w = Checked.Refused (at_start w)
+abbrev no : Refusal → Result ⊤ Refused
+no w = Err (at_start w)
 
 -- 2x - 1
 abbrev pub e : List ℤ
@@ -113,8 +110,8 @@ examples =
 -- the limits of "The system": the largest of each, and one more
 abbrev pub limits : List Case
 limits =
-    accepts (of 3 3 (three 3 3 3) (three 10 10 10)) (pos 1000000000) Checked.Good
-    ∷ accepts (of 1 1 (three 6 0 0) (three 0 0 0)) (negsuc 999999999) Checked.Good
+    accepts (of 3 3 (three 3 3 3) (three 10 10 10)) (pos 1000000000) (Ok tt)
+    ∷ accepts (of 1 1 (three 6 0 0) (three 0 0 0)) (negsuc 999999999) (Ok tt)
     ∷ accepts (of 3 3 (three 3 3 3) (three 10 10 10)) (pos 1000000001) (no Refusal.BadCoefficient)
     ∷ accepts (of 3 3 (three 3 3 3) (three 10 10 10)) (negsuc 1000000000) (no Refusal.BadCoefficient)
     ∷ accepts (of 0 1 (three 0 0 0) (three 0 0 0)) (pos 0) (no Refusal.OutOfLimits)
@@ -126,7 +123,7 @@ limits =
     ∷ accepts (of 1 1 (three 1 1 0) (three 0 0 0)) (pos 0) (no Refusal.OutOfLimits)
     ∷ accepts (of 3 1 (three 6 4 1) (three 0 0 0)) (pos 0) (no Refusal.OutOfLimits)
     -- M = 2^62 - 1, and 2^31 - 1 visits
-    ∷ allows (pos 4611686018427387903) 2147483647 Checked.Good
+    ∷ allows (pos 4611686018427387903) 2147483647 (Ok tt)
     ∷ allows (negsuc 4611686018427387903) 0 (no Refusal.OutsideRules)
     ∷ allows (pos 0) 2147483648 (no Refusal.OutsideRules)
     -- "Degree 6 is cut with sizes up to 2^56 - 1, not at 2^56", and degree 0 up to M

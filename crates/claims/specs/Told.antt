@@ -5,11 +5,10 @@
 --     ReachedContinued     what a caller reached by several calls is what one fresh call reaches
 --     RunsGoOn             of two fresh calls, the one with more visits and more room goes on from the other
 --     VisitTellsSign       a box that a visit says it dropped has the polynomial and the sign that it names
-use Rattle.std.specs.Prelude.{◌≡◌, List, ◌⊎◌, ℕ, ◌≤◌, ℤ, length, take}
+use Rattle.std.specs.Prelude.{◌≡◌, List, ◌⊎◌, ℕ, ◌≤◌, ℤ, length, take, Ok}
 use Rattle.bernstein.specs.Numbers.{Box}
 use Rattle.system.specs.declared.head.Head.{Head}
-use Rattle.system.specs.declared.head.Checked.{Checked}
-use Rattle.boxes.specs.declared.visit.Sign.{Sign}
+use Rattle.whole.specs.declared.Sign.{Sign}
 use Rattle.boxes.specs.declared.visit.Outcome.{Outcome}
 use Rattle.boxes.specs.declared.visit.Word.{Word}
 use Rattle.boxes.specs.Boxes.{as_box}
@@ -22,7 +21,6 @@ use Rattle.waiting.specs.declared.cursor.Kept.{Kept}
 use Rattle.waiting.specs.Fits.{InsideBox}
 use Rattle.waiting.specs.Starts.{start_check, start_store, fresh_state}
 use Rattle.runs.specs.declared.runs.Stop.{Stop}
-use Rattle.runs.specs.declared.runs.Answer as Ran
 use Rattle.runs.specs.declared.visits.Seen.{Seen}
 use Rattle.runs.specs.declared.visits.Answer as Visit
 use Rattle.runs.specs.Runs.{Run, run_of}
@@ -39,7 +37,7 @@ first_run h cs st budget list = run_of h fresh_state budget list (start_store h 
 -- word may be another.)
 pub record EndsSo (r : Run) (s : State) (list : List Kept) (store : List ℤ) : Type 0 where
   pub word : Word
-  pub answer : r.answer ≡ Ran.Answer.Stopped (record { word = word; state = s })
+  pub answer : r.answer ≡ Ok (record { word = word; state = s })
   pub store_is : r.end.store ≡ store
   pub kept_are : take s.kept r.end.list ≡ take s.kept list
 
@@ -60,9 +58,9 @@ pub record GoesOn (h : Head) (s : State) (list : List Kept) (store : List ℤ) (
   pub kept_in : All (λ k. LiesAmong h (as_box (box_of k)) s list store) (take s'.kept list')
 
 abbrev pub RunsGoOn : Type 0
-RunsGoOn = (h : Head) (cs st st' : List ℤ) → start_check h cs st ≡ Checked.Good → start_check h cs st' ≡ Checked.Good
+RunsGoOn = (h : Head) (cs st st' : List ℤ) → start_check h cs st ≡ Ok tt → start_check h cs st' ≡ Ok tt
     → (budget budget' : ℕ) (list list' : List Kept) → budget ≤ budget' → length list ≤ length list'
-    → (r r' : Stop) → (first_run h cs st budget list).answer ≡ Ran.Answer.Stopped r → (first_run h cs st' budget' list').answer ≡ Ran.Answer.Stopped r'
+    → (r r' : Stop) → (first_run h cs st budget list).answer ≡ Ok r → (first_run h cs st' budget' list').answer ≡ Ok r'
     → let e = (first_run h cs st budget list).end in
     let e' = (first_run h cs st' budget' list').end in
     GoesOn h r.state e.list e.store r'.state e'.list e'.store
@@ -70,5 +68,5 @@ RunsGoOn = (h : Head) (cs st st' : List ℤ) → start_check h cs st ≡ Checked
 -- "each dropped box has one polynomial with the same strict sign at all its rational points": those that the visit tells
 abbrev pub VisitTellsSign : Type 0
 VisitTellsSign = (h : Head) (cs st : List ℤ) (s : State) (list : List Kept) (store : List ℤ) → Reached h cs st s list store
-    → (v : Seen) → (visit_of h s list store).answer ≡ Visit.Answer.Saw v → (p : ℕ) (g : Sign) → v.visit.what ≡ Outcome.Dropped p g
+    → (v : Seen) → (visit_of h s list store).answer ≡ Ok (Visit.Answer.Saw v) → (p : ℕ) (g : Sign) → v.visit.what ≡ Outcome.Dropped p g
     → OneSign h cs (as_box v.visit.at) p g

@@ -1,16 +1,16 @@
--- The decimal digits of a number: the last one behind those of a tenth, how many there are, and how they are put. Assumes nothing.
+-- The decimal digits of a number: the last one behind those of a tenth, how many there are, and that a number is printed so. Assumes nothing.
 use mathlib.Core.Path.{◌≡◌, refl, sym, ap, subst, ◌∙◌}
 use mathlib.Core.Bool.{Bool, true, false}
 use mathlib.Core.List.{List, [], ◌∷◌, ◌++◌}
 use mathlib.Core.Logic.{◌⊎◌, inl, inr, ⊎_elim}
-use Prim.Native.Nat.{ℕ, zero, suc, ◌+◌, ◌-◌, ◌*◌, ◌/◌, ◌%◌, ◌≤◌, ◌<◌}
+use Prim.Native.Nat.{ℕ, zero, suc, ◌+◌, ◌-◌, ◌*◌, ◌/◌, ◌%◌, ◌^◌, ◌≤◌, ◌<◌}
 use native.Mathlib.Omega.{arith}
 use native.Mathlib.Nat.{pow-suc}
 use borrow.Author.Tests.{lt-ltb, le-ltb, ltb-true, ltb-false}
 use lib.Dec.{ltb}
-use lib.ListN.{length, get_or, set, length-append, get_or-append}
-use Rattle.file.specs.Bytes.{over}
-use Rattle.file.proofs.Putting.{put1, over_over, over_length}
+use lib.ListN.{length, get_or, length-append, get_or-append}
+use Rattle.std.specs.Fmt.{decimal as printed}
+use Rattle.std.proofs.lemmas.Fmt.{decimal_from_appends, length-decimal-le_succ}
 use Rattle.desk.specs.Text.{digit, digits, decimal, value, SaysBack, OnlyDigits, NoLeadingZero, AsFew}
 
 one_or_more : (n : ℕ) → (n < 10) ⊎ (10 ≤ n)
@@ -135,24 +135,10 @@ first_digit (suc f) n p q =
 pub no_leading_zero : NoLeadingZero
 no_leading_zero n h = first_digit n n (omega arith) h
 
--- ---- put into a target
-module _ (t : List ℕ) (at n : ℕ) (fit : at + length (decimal n) ≤ length t) where
-  pub one_put : n < 10 → (at + 1 ≡ at + length (decimal n)) × (set t at (48 + n) ≡ over t at (decimal n))
-  one_put h = let e : decimal n ≡ digit n = decimal_one n h in
-      let l : length (decimal n) ≡ 1 = ap length e in
-      (omega arith, put1 t at (48 + n) (omega arith) ∙ ap (over t at) (sym e))
-
-  module _ (h : 10 ≤ n) (o : ℕ) (t' : List ℕ) (eo : o ≡ at + length (decimal (n / 10))) (et : t' ≡ over t at (decimal (n / 10))) where
-    same : length t' ≡ length t
-    same = ap length et ∙ over_length t at (decimal (n / 10)) (omega (arith, decimal_length n h))
-
-    pub last_fits : o < length t'
-    last_fits = omega (arith, same, decimal_length n h)
-
-    pub last_put : (o + 1 ≡ at + length (decimal n)) × (set t' o (48 + n % 10) ≡ over t at (decimal n))
-    last_put = (
-      omega (arith, decimal_length n h),
-      put1 t' o (48 + n % 10) (omega (arith, last_fits))
-          ∙ rw (et, eo) (over_over t at (decimal (n / 10)) (digit (n % 10)) (omega (arith, decimal_length n h)))
-          ∙ ap (over t at) (sym (decimal_more n h)),
-    )
+-- ---- a number of 64 bits is printed so
+pub decimal_same : (n : ℕ) → n < 2 ^ 64 → printed n ≡ decimal n
+unfolding decimal
+decimal_same n h =
+    let short = length-decimal-le_succ n h in
+    sym (decimal_from_appends digits (record { one = λ k m l. digits_one (suc k) m l; more = digits_more }) (suc n) n h (omega (arith, short)))
+    ∙ digits_same (suc n) n n (omega arith) (omega arith)

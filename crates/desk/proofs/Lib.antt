@@ -1,9 +1,6 @@
 pub mod Decimals
-pub mod Stepping
-pub mod Joining
+pub mod Putting
 pub mod Sizes
 pub mod Lists
-pub mod Telling
 pub mod Finding
-pub mod Fitting
 pub mod Room

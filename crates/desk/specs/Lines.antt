@@ -1,13 +1,12 @@
 -- The lines that the desk program prints (01, "The program"; F): a refusal; or the answer word with visits, dropped, kept, waiting, then a line for each kept box.
 -- Definitions only.
-use Rattle.std.specs.Prelude.{ℕ, ◌/◌, min, List, [], ◌∷◌, ◌++◌, map, take}
+use Rattle.std.specs.Prelude.{ℕ, ◌/◌, min, List, [], ◌∷◌, ◌++◌, map, take, Result, Ok, Err}
 use Rattle.system.specs.Refusals.{number}
 use Rattle.system.specs.declared.refusal.Refused.{Refused}
 use Rattle.boxes.specs.declared.visit.Word.{Word}
 use Rattle.boxes.specs.declared.visit.Word.TheVariants.{Finished, Spent, Full}
 use Rattle.waiting.specs.declared.cursor.Kept.{Kept}
-use Rattle.runs.specs.declared.runs.Answer.{Answer}
-use Rattle.runs.specs.declared.runs.Answer.TheVariants.{Stopped, Refused as NotRun}
+use Rattle.runs.specs.declared.runs.Stop.{Stop}
 use Rattle.runs.specs.Lists.{seven}
 use Rattle.desk.specs.Text.{decimal, line}
 
@@ -43,12 +42,12 @@ kept_lines [] = []
 kept_lines (k ∷ ks) = kept_line k ++ kept_lines ks
 
 -- ---- what is printed of a run's answer, where the list holds these records
-abbrev pub told : Answer → List Kept → List ℕ
-told (Stopped s) list =
+abbrev pub told : Result Stop Refused → List Kept → List ℕ
+told (Ok s) list =
     stop_line s.word s.state.visits s.state.dropped s.state.kept s.state.waiting ++ kept_lines (take s.state.kept list)
-told (NotRun x) list = refusal_line x
+told (Err x) list = refusal_line x
 
 -- how many kept boxes that tells, where the list has so many numbers
-abbrev pub lines_told : Answer → (numbers : ℕ) → ℕ
-lines_told (Stopped s) n = min s.state.kept (n / 7)
-lines_told (NotRun x) n = 0
+abbrev pub lines_told : Result Stop Refused → (numbers : ℕ) → ℕ
+lines_told (Ok s) n = min s.state.kept (n / 7)
+lines_told (Err x) n = 0

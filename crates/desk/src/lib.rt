@@ -10,35 +10,39 @@ ghost use Rattle.desk.specs.Lines.{told};
 ghost use Rattle.desk.specs.Report.{system_found, file_found, found};
 
 use crate::printing::put_answer;
-use file::reading::Answer as Reading;
-use runs::runs::Answer;
+use crate::text::Text;
+use runs::runs::Stop;
 use system::head::Head;
-use waiting::start::Started;
+use system::refusal::Refused;
 
-fn search_system(h: Head, coefficients: &[i64], store: &mut [i64], list: &mut [u16]) -> Answer
+fn search_system(
+    h: Head,
+    coefficients: &[i64],
+    store: &mut [i64],
+    list: &mut [u16],
+) -> Result<Stop, Refused>
     ensures { (result ≡ (system_found 1000000 h coefficients.now store.old list.old).answer)
         × (list.new ≡ relisted list.old (system_found 1000000 h coefficients.now store.old list.old).kept) }
 {
-    let started = waiting::start::start(h, coefficients, store);
-    match started {
-        Started::Begun(s) => runs::plain::runs::run(store, list, h, s, 1000000),
-        Started::Refused(x) => Answer::Refused(x),
-    }
+    let s = waiting::start::start(h, coefficients, store)?;
+    runs::runs::run(store, list, h, s, 1000000)
 }
 
-fn search_file(file: &[u8], coefficients: &mut [i64], store: &mut [i64], list: &mut [u16]) -> Answer
+fn search_file(
+    file: &[u8],
+    coefficients: &mut [i64],
+    store: &mut [i64],
+    list: &mut [u16],
+) -> Result<Stop, Refused>
     ensures { (result ≡ (file_found 1000000 file.now coefficients.old store.old list.old).answer)
         × (list.new ≡ relisted list.old (file_found 1000000 file.now coefficients.old store.old list.old).kept) }
 {
-    let system = file::reading::read(file, coefficients);
-    match system {
-        Reading::System(h) => search_system(h, coefficients, store, list),
-        Reading::Refused(x) => Answer::Refused(x),
-    }
+    let h = file::reading::read(file, coefficients)?;
+    search_system(h, coefficients, store, list)
 }
 
 // Reads the file and makes the run. What the places hold before is never read.
-pub fn search(file: &[u8], list: &mut [u16; 7168]) -> Answer
+pub fn search(file: &[u8], list: &mut [u16; 7168]) -> Result<Stop, Refused>
     ensures { (result ≡ (found file.now list.old).answer)
         × (list.new ≡ relisted list.old (found file.now list.old).kept) }
 {
@@ -48,8 +52,10 @@ pub fn search(file: &[u8], list: &mut [u16; 7168]) -> Answer
 }
 
 // Puts what is printed of an answer at the front of the text, and answers how many bytes it is. The longest: a first line of 93 bytes and 1,024 lines of 42.
-pub fn tell(a: Answer, list: &[u16; 7168], text: &mut [u8; 43101]) -> usize
+pub fn tell(a: Result<Stop, Refused>, list: &[u16; 7168], text: &mut [u8; 43101]) -> usize
     ensures { (result ≡ length (told a (listed list.now))) × (text.new ≡ told a (listed list.now) ++ drop result text.old) }
 {
-    put_answer(text, a, list)
+    let mut printed = Text::new(text);
+    put_answer(&mut printed, a, list);
+    printed.at
 }

@@ -1,50 +1,54 @@
-// Words and numbers as text, put into lent bytes from a place on. Each call answers where the next byte goes.
-ghost use Rattle.std.specs.Prelude.{◌≡◌, map, ◌+◌, ◌≤◌, length};
-ghost use Rattle.file.specs.Bytes.{over};
+// A lent text, and what is put into it: words and numbers, one behind the other.
+ghost use Rattle.std.specs.Prelude.{◌≡◌, map};
 ghost use Rattle.desk.specs.Text.{decimal, ended};
+ghost use Rattle.desk.specs.Puts.{Fits, Puts};
 
-// The bytes of w.
-pub fn put_word(t: &mut [u8], at: usize, w: &[u8]) -> usize
-    requires { at + length w.now ≤ length t.old }
-    ensures { (result ≡ at + length w.now) × (t.new ≡ over t.old at w.now) }
-{
-    let mut i = 0;
-    let mut o = at;
-    while i < w.len() {
-        t[o] = w[i];
-        o += 1;
-        i += 1;
-    }
-    o
+use itoa::Buffer;
+
+// The lent bytes, and where the next one goes.
+#[derive(Drop)]
+pub struct Text<'a> {
+    pub bytes: &'a mut [u8],
+    pub at: usize,
 }
 
-// The digits of n. The last one goes behind those of n / 10.
-pub fn put_number(t: &mut [u8], at: usize, n: u64) -> usize
-    requires { at + length (decimal n) ≤ length t.old }
-    ensures { (result ≡ at + length (decimal n)) × (t.new ≡ over t.old at (decimal n)) }
-{
-    if n < 10 {
-        t[at] = 48 + n as u8;
-        return at + 1;
+impl<'a> Text<'a> {
+    pub fn new(bytes: &'a mut [u8]) -> Text<'a>
+        ensures same { result.bytes.ghost_name ≡ bytes.entry.ghost_name }
+        ensures at { result.at ≡ 0 }
+        ensures now { result.bytes.now ≡ bytes.old }
+    {
+        Text { bytes, at: 0 }
     }
-    let last = put_number(t, at, n / 10);
-    t[last] = 48 + (n % 10) as u8;
-    last + 1
-}
 
-// What stands on a line behind its first word: the numbers, each behind a blank, and the line's end.
-pub fn put_rest(t: &mut [u8], at: usize, ns: &[u64]) -> usize
-    requires { at + length (ended (map decimal ns.now)) ≤ length t.old }
-    ensures { (result ≡ at + length (ended (map decimal ns.now)))
-        × (t.new ≡ over t.old at (ended (map decimal ns.now))) }
-{
-    let mut i = 0;
-    let mut o = at;
-    while i < ns.len() {
-        t[o] = b' ';
-        o = put_number(t, o + 1, ns[i]);
-        i += 1;
+    #[inline(always)]
+    pub fn word(&mut self, w: &str)
+        requires { Fits self.old w.now }
+        ensures { Puts self.old self.new w.now }
+    {
+        let end = self.at + w.len();
+        self.bytes[self.at..end].copy_from_slice(w.as_bytes());
+        self.at = end;
     }
-    t[o] = b'\n';
-    o + 1
+
+    #[inline(always)]
+    pub fn number(&mut self, n: u64)
+        requires { Fits self.old (decimal n) }
+        ensures { Puts self.old self.new (decimal n) }
+    {
+        let mut digits = Buffer::new();
+        self.word(digits.format(n));
+    }
+
+    // What stands on a line behind its first word: the numbers, each behind a blank, and the line's end.
+    pub fn rest(&mut self, numbers: &[u64])
+        requires { Fits self.old (ended (map decimal numbers.now)) }
+        ensures { Puts self.old self.new (ended (map decimal numbers.now)) }
+    {
+        for n in numbers {
+            self.word(" ");
+            self.number(*n);
+        }
+        self.word("\n");
+    }
 }

@@ -1,97 +1,55 @@
 -- The filling pass, turn by turn: what the places hold so far, and what is still to come, are together W. Assumes nothing.
+use Rattle.std.specs.Prelude.{Ok}
 use mathlib.Core.Path.{◌≡◌, refl, sym, ap, ◌∙◌}
-use mathlib.Core.Bool.{Bool, true, false, cond, and-false}
-use mathlib.Core.List.{List, ◌++◌, append_assoc, append-nil}
+use mathlib.Core.Bool.{true, false, cond}
+use mathlib.Core.List.{List, [], ◌∷◌, ◌++◌, append_assoc, append-nil}
 use Prim.Native.Nat.{ℕ, zero, suc, ◌+◌, ◌-◌, ◌*◌, ◌/◌, ◌≤◌, ◌<◌}
 use native.Mathlib.Omega.{arith}
 use native.Mathlib.Nat.{suc-mul, zero-mul}
 use native.Mathlib.Numerals.{add-one}
-use borrow.Author.Tests.{lt-ltb, eq-eqb, ne_eqb}
-use lib.Dec.{ltb}
 use lib.IntN.{ℤ, pos}
-use lib.ListN.{length, take, drop, set, length-set, length-drop, length-append, take-append-drop}
-use lib.Seq.{take-suc-set, drop-set-lt, take_at, drop_at, drop-drop, length-take-le, append_snoc}
+use lib.ListN.{length, take, drop, set, length-drop, length-append, take-append-drop}
+use lib.Seq.{take-suc-set, take_at, drop_at, drop-drop, length-take-le, append_snoc, take_all}
 use Rattle.file.specs.Bytes.{word16}
-use Rattle.system.specs.declared.head.Checked.TheVariants.{Good}
 use Rattle.file.specs.Layout.{Layout}
 use Rattle.file.specs.Records.{length_of}
-use Rattle.file.specs.Terms.{place_of, value_of, here, coefficients}
+use Rattle.file.specs.Terms.{value_of, here, coefficients}
 use Rattle.file.specs.Reading.{polynomial, polynomials, numbers_of}
 use Rattle.file.proofs.Tests.{parts}
 use Rattle.file.proofs.Stepping.{length_there}
 use Rattle.file.proofs.InOrder.{coefficients_length}
+use Rattle.std.proofs.lemmas.List.{take_rest}
 use Rattle.file.proofs.Walking.{polynomial_long}
 
--- ---- the coefficient of one place
-module _ (L : Layout) (r : List ℕ) (p : ℕ) where
-  pub here_none : (left : ℕ) → left ≡ 0 → here L left p r ≡ false
-  here_none left e = rw e refl
+pub coefficients_step : (L : Layout) (n t p : ℕ) (r : List ℕ) → p < n
+    → coefficients L (n - p) t p r ≡ cond (here L t p r) (value_of r) (pos 0)
+    ∷ coefficients L (n - (p + 1)) (cond (here L t p r) (t - 1) t) (p + 1) (drop (cond (here L t p r) 7 0) r)
+unfolding coefficients
+coefficients_step L n t p r h = let e : n - p ≡ suc (n - (p + 1)) = omega arith in rw e refl
 
-  pub here_yes : (left q : ℕ) → (left ≡ 0 → ⊥) → q ≡ place_of L r → q ≡ p → here L left p r ≡ true
-  here_yes left q n e f = rw (lt-ltb 0 left (omega arith), eq-eqb (place_of L r) p (sym e ∙ f)) refl
+pub coefficients_none : (L : Layout) (n t p : ℕ) (r : List ℕ) → n ≤ p → coefficients L (n - p) t p r ≡ []
+unfolding coefficients
+coefficients_none L n t p r h = let e : n - p ≡ 0 = omega arith in rw e refl
 
-  pub here_no : (left q : ℕ) → q ≡ place_of L r → (q ≡ p → ⊥) → here L left p r ≡ false
-  here_no left q e f = rw (ne_eqb (place_of L r) p (λ z. f (e ∙ z))) (and-false (ltb 0 left))
+-- ---- one polynomial: its places before p are filled, and the terms that are left fill the others
+module _ (L : Layout) (W out : List ℤ) (n p left : ℕ) (r : List ℕ) (h : p < n) (l : p < length out) (w : take p out ++ coefficients L (n - p) left p r ≡ W) where
+  turn : (v : ℤ) → v ≡ cond (here L left p r) (value_of r) (pos 0)
+      → take (p + 1) (set out p v) ++ coefficients L (n - (p + 1)) (cond (here L left p r) (left - 1) left) (p + 1) (drop (cond (here L left p r) 7 0) r) ≡ W
+  turn v e = rw (add-one p, take-suc-set out p v l, ← add-one p) (append_snoc (take p out) v _ ∙ rw e (rw (coefficients_step L n left p r h) at w))
 
-module _ (b : Bool) (v : ℤ) (at left : ℕ) where
-  pub not_found : b ≡ false → (pos 0 ≡ cond b v (pos 0)) × ((at ≡ at + cond b 7 0) × (left ≡ cond b (left - 1) left))
-  not_found e = rw e (refl, (omega arith, refl))
+  pub found_turn : here L left p r ≡ true → (v : ℤ) → v ≡ value_of r → take (p + 1) (set out p v) ++ coefficients L (n - (p + 1)) (left - 1) (p + 1) (drop 7 r) ≡ W
+  found_turn e v q = rw e at (turn v (rw e q))
 
-  pub found : (x : ℤ) → b ≡ true → x ≡ v → (x ≡ cond b v (pos 0)) × ((at + 7 ≡ at + cond b 7 0) × (left - 1 ≡ cond b (left - 1) left))
-  found x e f = rw e (f, (refl, refl))
+  pub none_turn : here L left p r ≡ false → take (p + 1) (set out p (pos 0)) ++ coefficients L (n - (p + 1)) left (p + 1) r ≡ W
+  none_turn e = rw e at (turn (pos 0) (rw e refl))
 
--- ---- one polynomial: its places before p are filled, from base on
-pub record Placed (L : Layout) (s : List ℕ) (W : List ℤ) (out0 : List ℤ) (n base p o left : ℕ) (out : List ℤ) : Type 0 where
-  pub long : length out ≡ length out0
-  pub inside : p ≤ n
-  pub room : o + 7 * left ≤ length s
-  pub done : take (base + p) out ++ coefficients L (n - p) left p (drop o s) ≡ W
-  pub rest : drop (base + p) out ≡ drop (base + p) out0
-
-found_room : (b : Bool) (o left k : ℕ) → (b ≡ true → 0 < left) → o + 7 * left ≤ k → o + cond b 7 0 + 7 * cond b (left - 1) left ≤ k
-found_room true o left k p h = let q : 0 < left = p refl in omega arith
-found_room false o left k p h = omega arith
-
-here_some : (L : Layout) (left p : ℕ) (r : List ℕ) → here L left p r ≡ true → 0 < left
+pub here_some : (L : Layout) (left p : ℕ) (r : List ℕ) → here L left p r ≡ true → 0 < left
 here_some L zero p r e = absurd (let z : ◌≡◌ {A = ℕ} 0 1 = cc in let y : ⊥ = omega arith in y)
 here_some L (suc n) p r e = omega arith
 
-module _ (L : Layout) (s : List ℕ) (W out0 : List ℤ) (n base : ℕ) (fit : base + n ≤ length out0) where
-  pub placed_turn : (p o left : ℕ) (out : List ℤ) (v : ℤ) (o' left' : ℕ) → Placed L s W out0 n base p o left out → p < n
-      → v ≡ cond (here L left p (drop o s)) (value_of (drop o s)) (pos 0) → o' ≡ o + cond (here L left p (drop o s)) 7 0 → left' ≡ cond (here L left p (drop o s)) (left - 1) left
-      → Placed L s W out0 n base (p + 1) o' left' (set out (base + p) v)
-  unfolding coefficients
-  placed_turn p o left out v o' left' i h ev eo el =
-      let e : base + (p + 1) ≡ suc (base + p) = omega arith in
-      let m : n - p ≡ suc (n - (p + 1)) = omega arith in
-      let inl : base + p < length out = omega (arith, i.long) in
-      let d = rw m at i.done in
-      record {
-        long = length-set out (base + p) v ∙ i.long;
-        inside = omega arith;
-        room = rw (eo, el) (found_room (here L left p (drop o s)) o left (length s) (here_some L left p (drop o s)) i.room);
-        done =
-            rw (e, take-suc-set out (base + p) v inl, eo, el, ← drop-drop (cond (here L left p (drop o s)) 7 0) o s)
-            (append_snoc (take (base + p) out) v _ ∙ rw ev d);
-        rest =
-            rw e (drop-set-lt (suc (base + p)) out (base + p) v (omega arith)
-            ∙ sym (ap (λ (k : ℕ). drop k out) (add-one (base + p))) ∙ sym (drop-drop 1 (base + p) out) ∙ ap (drop 1) i.rest ∙ drop-drop 1 (base + p) out0 ∙ ap (λ (k : ℕ). drop k out0) (add-one (base + p)));
-      }
-
-  pub placed_over : (p o left : ℕ) (out : List ℤ) → Placed L s W out0 n base p o left out → n ≤ p → out ≡ W ++ drop (base + n) out0
-  unfolding coefficients
-  placed_over p o left out i h =
-      let e : p ≡ n = omega (arith, i.inside) in
-      let z : n - p ≡ 0 = omega arith in
-      let d : take (base + p) out ≡ W = sym (append-nil (take (base + p) out)) ∙ (rw z at i.done) in
-      sym (take-append-drop (base + p) out) ∙ rw (d, i.rest, e) refl
-
-pub placed_start : (L : Layout) (s : List ℕ) (out0 : List ℤ) (n base at t : ℕ) → at + 7 * t ≤ length s
-    → Placed L s (take base out0 ++ coefficients L n t 0 (drop at s)) out0 n base 0 at t out0
-placed_start L s out0 n base at t h =
-    let e : base + 0 ≡ base = omega arith in
-    let z : n - 0 ≡ n = omega arith in
-    record { long = refl; inside = omega arith; room = h; done = rw (e, z) refl; rest = refl }
+pub filled_places : (L : Layout) (W out : List ℤ) (n p left : ℕ) (r : List ℕ) → n ≤ p → length out ≤ n → take p out ++ coefficients L (n - p) left p r ≡ W → out ≡ W
+filled_places L W out n p left r h l w =
+    sym (take_all p out (omega arith)) ∙ sym (append-nil (take p out)) ∙ (rw (coefficients_none L n left p r h) at w)
 
 -- ---- all polynomials: those before k are filled in
 pub record Filled (L : Layout) (s : List ℕ) (W : List ℤ) (out0 : List ℤ) (m k o base : ℕ) (out : List ℤ) : Type 0 where
@@ -99,10 +57,10 @@ pub record Filled (L : Layout) (s : List ℕ) (W : List ℤ) (out0 : List ℤ) (
   pub room : base + (m - k) * L.size ≡ m * L.size
   pub done : take base out ++ numbers_of L (m - k) (drop o s) ≡ W
   pub rest : drop base out ≡ drop base out0
-  pub good : polynomials L (m - k) (k + 1) o (drop o s) ≡ Good
+  pub good : polynomials L (m - k) (k + 1) o (drop o s) ≡ Ok tt
 
-polynomials_first : (L : Layout) (j k o : ℕ) (r : List ℕ) → polynomials L (suc j) k o r ≡ Good
-    → (polynomial L k o r ≡ Good) × (polynomials L j (k + 1) (o + (4 + length_of r)) (drop (4 + length_of r) r) ≡ Good)
+polynomials_first : (L : Layout) (j k o : ℕ) (r : List ℕ) → polynomials L (suc j) k o r ≡ Ok tt
+    → (polynomial L k o r ≡ Ok tt) × (polynomials L j (k + 1) (o + (4 + length_of r)) (drop (4 + length_of r) r) ≡ Ok tt)
 unfolding polynomials
 polynomials_first L j k o r e = parts (polynomial L k o r) (polynomials L j (k + 1) (o + (4 + length_of r)) (drop (4 + length_of r) r)) e
 
@@ -111,7 +69,7 @@ module _ (L : Layout) (s : List ℕ) (W out0 : List ℤ) (m : ℕ) (fit : m * L.
     one_less : m - k ≡ suc (m - (k + 1))
     one_less = omega arith
 
-    splits : (polynomial L (k + 1) o (drop o s) ≡ Good) × (polynomials L (m - (k + 1)) (k + 1 + 1) (o + (4 + length_of (drop o s))) (drop (4 + length_of (drop o s)) (drop o s)) ≡ Good)
+    splits : (polynomial L (k + 1) o (drop o s) ≡ Ok tt) × (polynomials L (m - (k + 1)) (k + 1 + 1) (o + (4 + length_of (drop o s))) (drop (4 + length_of (drop o s)) (drop o s)) ≡ Ok tt)
     splits = polynomials_first L (m - (k + 1)) (k + 1) o (drop o s) (rw one_less at i.good)
 
     pub filled_long : (o + 4 + word16 s o ≤ length s) × (1 ≤ word16 s o)
@@ -150,7 +108,35 @@ module _ (L : Layout) (s : List ℕ) (W out0 : List ℤ) (m : ℕ) (fit : m * L.
       let d : take base out ≡ W = sym (append-nil (take base out)) ∙ (rw z at i.done) in
       sym (take-append-drop base out) ∙ rw (d, i.rest, b) refl
 
-pub filled_start : (L : Layout) (s : List ℕ) (out0 : List ℤ) (m : ℕ) → polynomials L m 1 12 (drop 12 s) ≡ Good → Filled L s (numbers_of L m (drop 12 s)) out0 m 0 12 0 out0
-filled_start L s out0 m g =
+  -- what is read and filled next is there
+  pub filled_next : k < m → (o + 4 + word16 s o ≤ length s) × ((1 ≤ word16 s o) × (base + L.size ≤ length out))
+  filled_next h = let e = filled_long h in (e.0, (e.1, filled_fits h))
+
+pub filled_start : (L : Layout) (s : List ℕ) (out0 : List ℤ) (m base : ℕ) → base ≡ 0 → polynomials L m 1 12 (drop 12 s) ≡ Ok tt → Filled L s (numbers_of L m (drop 12 s)) out0 m 0 12 base out0
+filled_start L s out0 m base e g =
     let z : m - 0 ≡ m = omega arith in
-    record { long = refl; room = rw z (omega arith); done = rw z refl; rest = refl; good = rw z g }
+    rw e (record { long = refl; room = rw z (omega arith); done = rw z refl; rest = refl; good = rw z g })
+
+-- ---- the loop's turns: the numbers of polynomial k stand from n * k on, and the next polynomial is there, with room for it
+abbrev pub Kept : (L : Layout) (s : List ℕ) (W out0 : List ℤ) (m n k o : ℕ) (out : List ℤ) → Type 0
+Kept L s W out0 m n k o out =
+    Filled L s W out0 m k o (n * k) out × (k < m → (o + 4 + word16 s o ≤ length s) × ((1 ≤ word16 s o) × (n * k + n ≤ length out)))
+
+module _ (L : Layout) (s : List ℕ) where
+  kept : (W out0 : List ℤ) (m : ℕ) → m * L.size ≤ length out0 → (n : ℕ) → n ≡ L.size → (k o : ℕ) (out : List ℤ) → Filled L s W out0 m k o (n * k) out → Kept L s W out0 m n k o out
+  kept W out0 m fit n en k o out f =
+      (f, λ h. let e = filled_next L s W out0 m fit k o (n * k) out f h in (e.0, (e.1.0, let z : n * k + L.size ≤ length out = e.1.1 in omega (arith, en))))
+
+  pub kept_start : (out0 : List ℤ) (m : ℕ) → m * L.size ≤ length out0 → (n : ℕ) → n ≡ L.size → polynomials L m 1 12 (drop 12 s) ≡ Ok tt
+      → Kept L s (numbers_of L m (drop 12 s)) out0 m n 0 12 out0
+  kept_start out0 m fit n en g = kept _ out0 m fit n en 0 12 out0 (filled_start L s out0 m (n * 0) (omega arith) g)
+
+  pub kept_turn : (W out0 : List ℤ) (m : ℕ) → m * L.size ≤ length out0 → (n : ℕ) → n ≡ L.size → (k o : ℕ) (out : List ℤ) → Kept L s W out0 m n k o out → k < m
+      → (len : ℕ) → len ≡ word16 s o → (ys : List ℤ) → ys ≡ coefficients L L.size ((len - 1) / 7) 0 (take (length s - (o + 5)) (drop (o + 5) s)) → (d : ℕ) → d ≡ n
+      → Kept L s W out0 m n (k + 1) (o + (4 + len)) (take (n * k) out ++ (ys ++ drop d (drop (n * k) out)))
+  kept_turn W out0 m fit n en k o out i h len q ys ey d ed =
+      let e : n * (k + 1) ≡ n * k + L.size = omega (arith, en) in
+      let b : n * k + d ≡ n * k + L.size = omega (arith, en, ed) in
+      let y : take (n * k) out ++ (ys ++ drop d (drop (n * k) out)) ≡ take (n * k) out ++ (coefficients L L.size ((len - 1) / 7) 0 (drop (o + 5) s) ++ drop (n * k + L.size) out)
+      = rw (drop-drop d (n * k) out, b, ey, take_rest s (o + 5)) refl in
+      kept W out0 m fit n en (k + 1) (o + (4 + len)) _ (rw e (filled_turn L s W out0 m fit k o (n * k) out i.0 h len q _ y))

@@ -1,4 +1,5 @@
 -- Every record of a file that reads is within its longest, so the file is; and the tests of a longer file look only at its front. Assumes nothing.
+use Rattle.std.specs.Prelude.{Result, Ok, Err, ⊤}
 use mathlib.Core.Path.{◌≡◌, refl, sym, ap, ap₂, ◌∙◌}
 use mathlib.Core.Bool.{Bool, true, false}
 use mathlib.Core.List.{List, ◌++◌}
@@ -12,8 +13,7 @@ use Rattle.system.specs.Heads.{head_ok}
 use Rattle.system.proofs.Heads.{head_says}
 use Rattle.system.specs.declared.refusal.Refusal.TheVariants.{ExtraBytes, OutOfLimits}
 use Rattle.system.specs.declared.head.Head.{Head}
-use Rattle.system.specs.declared.head.Checked.{Checked}
-use Rattle.system.specs.declared.head.Checked.TheVariants.{Good, Refused}
+use Rattle.system.specs.declared.refusal.Refused.{Refused}
 use Rattle.system.specs.Chain.{test, ◌then◌}
 use Rattle.file.specs.Bytes.{byte}
 use Rattle.file.specs.Layout.{Layout, layout}
@@ -22,7 +22,6 @@ use Rattle.file.specs.Terms.{exponents, place_of, term, terms}
 use Rattle.file.specs.Reading.{head_shape, polynomial_shape, end_shape, term_count, polynomial, ending, polynomials, head_of, checked, reads}
 use Rattle.file.specs.Lengths.{longest, ReadIsShort, FrontDecides}
 use Rattle.file.specs.declared.parser.Shape.{Shape}
-use Rattle.file.specs.declared.reading.Answer.{Answer}
 use Rattle.file.proofs.Tests.{parts, passed}
 use Rattle.file.proofs.Stepping.{due_parts, fits_says}
 use Rattle.file.proofs.Answering.{in_file, reads_stop}
@@ -32,14 +31,14 @@ polynomial_length : (s n : ℕ) → fits (polynomial_shape s) n ≡ true → n �
 polynomial_length s n e = let f = (fits_says (polynomial_shape s) n).fact e in omega (arith, f.0.0, f.0.1, f.1)
 
 module _ (L : Layout) (small : L.size ≤ 64) where
-  polynomial_in_file : (k o : ℕ) (r : List ℕ) → polynomial L k o r ≡ Good → length_of r ≤ 449
+  polynomial_in_file : (k o : ℕ) (r : List ℕ) → polynomial L k o r ≡ Ok tt → length_of r ≤ 449
   unfolding polynomial
   polynomial_in_file k o r e =
       let a = parts (due 2 (polynomial_shape L.size) o r) _ e in
       omega (arith, polynomial_length L.size (length_of r) (due_parts 2 (polynomial_shape L.size) o r a.0).fitting)
 
   -- what is left of a file, where j polynomials are due
-  left_short : (j k o : ℕ) (r : List ℕ) → polynomials L j k o r ≡ Good → length r ≤ 453 * j + 4
+  left_short : (j k o : ℕ) (r : List ℕ) → polynomials L j k o r ≡ Ok tt → length r ≤ 453 * j + 4
   unfolding polynomials ending
   left_short zero k o r e =
       let a = parts (due 3 end_shape o r) (test (leb (length r) 4) ExtraBytes (o + 4)) e in
@@ -50,7 +49,7 @@ module _ (L : Layout) (small : L.size ≤ 64) where
       let i = left_short j (k + 1) (o + (4 + length_of r)) (drop (4 + length_of r) r) a.1 in
       omega (arith, n, i, length-drop (4 + length_of r) r)
 
-good_short : (s : List ℕ) → checked s ≡ Good → length s ≤ longest
+good_short : (s : List ℕ) → checked s ≡ Ok tt → length s ≤ longest
 good_short s e =
     let f = in_file s e in
     let m = (head_says (head_of s)).fact f.limits in
@@ -60,9 +59,9 @@ good_short s e =
 pub read_is_short : ReadIsShort
 read_is_short s out h e = from (checked s) refl
   where
-    from : (c : Checked) → checked s ≡ c → length s ≤ longest
-    from Good q = good_short s q
-    from (Refused x) q = let z : Answer.Refused x ≡ Answer.System h = sym (ap (λ r. r.0) (reads_stop s out x q)) ∙ e in
+    from : (c : Result ⊤ Refused) → checked s ≡ c → length s ≤ longest
+    from (Ok tt) q = good_short s q
+    from (Err x) q = let z : Err x ≡ Ok h = sym (ap (λ r. r.0) (reads_stop s out x q)) ∙ e in
         let w : ◌≡◌ {A = ℕ} 0 1 = cc z in absurd (omega arith)
 
 -- ---- the tests of a file r with more behind it
@@ -142,8 +141,8 @@ module _ (x : List ℕ) where
           same : due 2 (polynomial_shape L.size) o (r ++ x) ≡ due 2 (polynomial_shape L.size) o r
           same = same_due 2 (polynomial_shape L.size) o r (omega arith) (λ e. omega (arith, polynomial_length L.size (length_of r) e))
 
-          go : (c : Checked) → due 2 (polynomial_shape L.size) o r ≡ c → polynomial L k o (r ++ x) ≡ polynomial L k o r
-          go Good e =
+          go : (c : Result ⊤ Refused) → due 2 (polynomial_shape L.size) o r ≡ c → polynomial L k o (r ++ x) ≡ polynomial L k o r
+          go (Ok tt) e =
               let n = polynomial_length L.size (length_of r) (due_parts 2 (polynomial_shape L.size) o r e).fitting in
               let d : drop 5 (r ++ x) ≡ drop 5 r ++ x = drop-append-le 5 r x (omega arith) in
               rw (
@@ -154,7 +153,7 @@ module _ (x : List ℕ) where
                 d,
                 same_terms (term_count r) (o + 5) 0 (drop 5 r) (omega (arith, n, length-drop 5 r)),
               ) refl
-          go (Refused y) e = rw (same, e) refl
+          go (Err y) e = rw (same, e) refl
 
       same_polynomials : (j k o : ℕ) (r : List ℕ) → 453 * j + 4 < length r → polynomials L j k o (r ++ x) ≡ polynomials L j k o r
       unfolding polynomials
@@ -165,8 +164,8 @@ module _ (x : List ℕ) where
           same = same_polynomial k o r (omega arith)
 
           go : ((k o : ℕ) (r : List ℕ) → 453 * j + 4 < length r → polynomials L j k o (r ++ x) ≡ polynomials L j k o r)
-              → (c : Checked) → polynomial L k o r ≡ c → polynomials L (suc j) k o (r ++ x) ≡ polynomials L (suc j) k o r
-          go again Good e =
+              → (c : Result ⊤ Refused) → polynomial L k o r ≡ c → polynomials L (suc j) k o (r ++ x) ≡ polynomials L (suc j) k o r
+          go again (Ok tt) e =
               let n = polynomial_in_file L small k o r e in
               let d : drop (4 + length_of r) (r ++ x) ≡ drop (4 + length_of r) r ++ x = drop-append-le (4 + length_of r) r x (omega (arith, n)) in
               rw (
@@ -176,7 +175,7 @@ module _ (x : List ℕ) where
                 d,
                 again (k + 1) (o + (4 + length_of r)) (drop (4 + length_of r) r) (omega (arith, n, length-drop (4 + length_of r) r)),
               ) refl
-          go again (Refused y) e = rw (same, e) refl
+          go again (Err y) e = rw (same, e) refl
 
   same_head : (s : List ℕ) → 12 ≤ length s → head_of (s ++ x) ≡ head_of s
   same_head s h = rw (
@@ -191,7 +190,7 @@ module _ (x : List ℕ) where
   ) refl
 
   -- the tests of a head, and what follows it
-  abbrev headed : Head → List ℕ → Checked
+  abbrev headed : Head → List ℕ → Result ⊤ Refused
   headed h r = test (head_ok h) OutOfLimits 0 then polynomials (layout h) h.m 1 12 r
 
   same_headed : (h : Head) (r : List ℕ) → 453 * 3 + 4 < length r → headed h (r ++ x) ≡ headed h r
@@ -201,7 +200,7 @@ module _ (x : List ℕ) where
       go true e =
           let m = (head_says h).fact e in
           let p = same_polynomials (layout h) m.size_high h.m 1 12 r (omega (arith, m.m_high)) in
-          ap (λ (c : Checked). test (head_ok h) OutOfLimits 0 then c) p
+          ap (λ (c : Result ⊤ Refused). test (head_ok h) OutOfLimits 0 then c) p
       go false e = rw e refl
 
   same_checked : (s : List ℕ) → longest < length s → checked (s ++ x) ≡ checked s
@@ -216,9 +215,9 @@ module _ (x : List ℕ) where
 pub front_decides : FrontDecides
 front_decides s out n h = from (leb (length s) n) refl
   where
-    longer_file : n < length s → (c : Checked) → checked (take n s) ≡ c → reads (take n s) out ≡ reads s out
-    longer_file l Good q = absurd (omega (arith, good_short (take n s) q, length-take-le n s (omega arith)))
-    longer_file l (Refused y) q =
+    longer_file : n < length s → (c : Result ⊤ Refused) → checked (take n s) ≡ c → reads (take n s) out ≡ reads s out
+    longer_file l (Ok tt) q = absurd (omega (arith, good_short (take n s) q, length-take-le n s (omega arith)))
+    longer_file l (Err y) q =
         let same : checked (take n s ++ drop n s) ≡ checked (take n s) = same_checked (drop n s) (take n s) (omega (arith, length-take-le n s (omega arith))) in
         reads_stop (take n s) out y q ∙ sym (reads_stop s out y (ap checked (sym (take-append-drop n s)) ∙ same ∙ q))
 

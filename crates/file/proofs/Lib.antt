@@ -3,7 +3,6 @@ pub mod Putting
 pub mod Tests
 pub mod Layouts
 pub mod Stepping
-pub mod TermTests
 pub mod InOrder
 pub mod Walking
 pub mod Filling

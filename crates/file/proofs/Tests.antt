@@ -1,18 +1,17 @@
 -- Chains of tests, and Booleans: taken apart and put together. Assumes nothing.
+use Rattle.std.specs.Prelude.{Result, Ok, Err, ⊤}
 use mathlib.Core.Path.{◌≡◌, refl, sym}
 use mathlib.Core.Bool.{Bool, true, false, ◌&&◌, not}
 use Prim.Native.Nat.{ℕ}
 use native.Mathlib.Omega.{arith}
 use Rattle.system.specs.declared.refusal.Refusal.{Refusal}
-use Rattle.system.specs.declared.refusal.Refused as refusal
-use Rattle.system.specs.declared.head.Checked.{Checked}
-use Rattle.system.specs.declared.head.Checked.TheVariants.{Good, Refused}
+use Rattle.system.specs.declared.refusal.Refused.{Refused}
 use Rattle.system.specs.Chain.{test, ◌then◌}
 
 pub no_way : {A : Type 0} → true ≡ false → A
 no_way e = let z : ◌≡◌ {A = ℕ} 0 1 = cc in absurd (omega arith)
 
-pub no_good : {A : Type 0} {x : refusal.Refused} → Refused x ≡ Good → A
+pub no_good : {A : Type 0} {x : Refused} → ◌≡◌ {A = Result ⊤ Refused} (Err x) (Ok tt) → A
 no_good e = let z : ◌≡◌ {A = ℕ} 0 1 = cc in absurd (omega arith)
 
 -- ---- Booleans
@@ -28,16 +27,16 @@ not_not true e = sym e
 not_not false e = refl
 
 -- ---- tests
-pub passed : (b : Bool) (w : Refusal) (o : ℕ) → test b w o ≡ Good → b ≡ true
+pub passed : (b : Bool) (w : Refusal) (o : ℕ) → test b w o ≡ Ok tt → b ≡ true
 passed true w o e = refl
 passed false w o e = no_good e
 
-pub pass : {b : Bool} (w : Refusal) (o : ℕ) → b ≡ true → test b w o ≡ Good
+pub pass : {b : Bool} (w : Refusal) (o : ℕ) → b ≡ true → test b w o ≡ Ok tt
 pass w o e = rw e refl
 
-pub parts : (a b : Checked) → a then b ≡ Good → (a ≡ Good) × (b ≡ Good)
-parts Good b e = (refl, e)
-parts (Refused x) b e = no_good e
+pub parts : (a b : Result ⊤ Refused) → a then b ≡ Ok tt → (a ≡ Ok tt) × (b ≡ Ok tt)
+parts (Ok tt) b e = (refl, e)
+parts (Err x) b e = no_good e
 
-pub chain : {a b : Checked} → a ≡ Good → b ≡ Good → a then b ≡ Good
+pub chain : {a b : Result ⊤ Refused} → a ≡ Ok tt → b ≡ Ok tt → a then b ≡ Ok tt
 chain p q = rw (p, q) refl

@@ -1,18 +1,19 @@
 -- Numbers to bytes and back: reading what was written gives the number, writing what was read gives the bytes. Assumes nothing.
-use mathlib.Core.Path.{◌≡◌, refl, sym, ap, ◌∙◌, subst}
-use mathlib.Core.Bool.{true, false}
+use mathlib.Core.Path.{◌≡◌, refl, sym, ap, ◌∙◌}
 use mathlib.Core.List.{List, [], ◌∷◌}
-use Prim.Native.Nat.{ℕ, zero, suc, ◌+◌, ◌-◌, ◌*◌, ◌/◌, ◌%◌, ◌≤◌, ◌<◌}
+use Prim.Native.Nat.{ℕ, zero, suc, ◌+◌, ◌-◌, ◌*◌, ◌^◌, ◌/◌, ◌%◌, ◌≤◌, ◌<◌}
 use native.Mathlib.Omega.{arith}
 use borrow.Author.Tests.{lt-ltb, le-ltb}
-use lib.IntN.{ℤ, pos, negsuc, neg_ℤ, nat_abs}
-use lib.Signed.{lt_z}
-use lib.Dec.{T, ltb→lt}
+use lib.IntN.{ℤ, pos, negsuc, neg_ℤ}
 use lib.ListN.{length, take, drop}
 use lib.Seq.{take-suc, get_or-drop}
+use mir.Syntax.{w32}
+use mir.Val.{to_z, of_z}
+use mir.Facts.{to_z_pos, to_z-neg, of_z-to_z}
+use Rattle.std.specs.Int.{to_le_bytes}
 use Rattle.whole.specs.Size.{Below}
 use Rattle.whole.proofs.Parts.{by_lt}
-use Rattle.file.specs.Bytes.{byte, Bytes, AnyBytes, word16, word32, signed32, unsigned32, bytes16, four_bytes, bytes32}
+use Rattle.file.specs.Bytes.{byte, Bytes, AnyBytes, word16, word32, signed32, unsigned32, four_bytes, bytes32}
 
 -- ---- past the end stands a 0
 byte_below : (s : List ℕ) → ((i : ℕ) → i < length s → byte s i < 256) → (i : ℕ) → byte s i < 256
@@ -27,12 +28,6 @@ any_bytes s h = record { at = byte_below s h }
 pub word16_bytes : (n : ℕ) → n % 256 + 256 * (n / 256) ≡ n
 word16_bytes n = omega arith
 
-pub bytes_word16 : (a b : ℕ) → a < 256 → bytes16 (a + 256 * b) ≡ a ∷ b ∷ []
-bytes_word16 a b h =
-    let e : (a + 256 * b) % 256 ≡ a = omega arith in
-    let f : (a + 256 * b) / 256 ≡ b = omega arith in
-    rw (e, f) refl
-
 -- a number below 256 in two bytes
 pub word16_small : (s : List ℕ) (i n : ℕ) → Bytes s → word16 s i ≡ n → n < 256 → (byte s i ≡ n) × (byte s (i + 1) ≡ 0)
 word16_small s i n b e h = (omega (arith, b.at i), omega (arith, b.at i))
@@ -46,18 +41,12 @@ pub signed_high : (u : ℕ) → 2147483648 ≤ u → neg_ℤ (pos (4294967296 - 
 unfolding signed32
 signed_high u h = rw (le-ltb u 2147483648 h) refl
 
-pub unsigned_below : (x : ℤ) → Below 2147483648 x → lt_z x (pos 0) ≡ true → (4294967296 - nat_abs x ≡ unsigned32 x) × (4294967296 - nat_abs x < 4294967296)
-unfolding unsigned32
-unsigned_below (pos n) b e = absurd (no n (ltb→lt n 0 (subst T (sym e) tt)))
-  where
-    no : (n : ℕ) → n < 0 → ⊥
-    no n h = omega arith
-unsigned_below (negsuc n) b e = omega arith
-
-pub unsigned_above : (x : ℤ) → Below 2147483648 x → lt_z x (pos 0) ≡ false → (nat_abs x ≡ unsigned32 x) × (nat_abs x < 4294967296)
-unfolding unsigned32
-unsigned_above (pos n) b e = (refl, omega arith)
-unsigned_above (negsuc n) b e = absurd (subst T e tt)
+-- what the machine makes of 32 bits
+pub signed_bits : (u n : ℕ) → u ≡ n → n < 4294967296 → to_z w32 u ≡ signed32 n
+signed_bits u n e h = rw e (by_lt n 2147483648 (λ p. to_z_pos w32 p ∙ signed_low n p) (λ q.
+    let k : 4294967296 - n ≡ suc (4294967295 - n) = omega arith in
+    let m : 4294967296 - suc (4294967295 - n) ≡ n = omega arith in
+    (rw m at (to_z-neg w32 (4294967295 - n) (omega arith))) ∙ (rw k at (signed_high n q))))
 
 pub signed_back : (x : ℤ) → Below 2147483648 x → signed32 (unsigned32 x) ≡ x
 unfolding unsigned32
@@ -98,6 +87,24 @@ bytes32_back r i b =
 -- a number, written and read
 pub value_back : (x : ℤ) → Below 2147483648 x → (let u = unsigned32 x in signed32 (u % 256 + 256 * (u / 256 % 256) + 65536 * (u / 256 / 256 % 256) + 16777216 * (u / 256 / 256 / 256))) ≡ x
 value_back x b = rw (word32_bytes (unsigned32 x)) (signed_back x b)
+
+pub unsigned_fits : (x : ℤ) → Below 2147483648 x → unsigned32 x < 4294967296
+unfolding unsigned32
+unsigned_fits (pos n) b = omega (arith, b.below)
+unsigned_fits (negsuc n) b = omega arith
+
+-- the machine's four bytes of a signed number
+pub machine_bits : (x y : ℤ) → Below 2147483648 x → y ≡ x → of_z w32 (to_z w32 (of_z w32 y)) ≡ unsigned32 x
+unfolding unsigned32
+machine_bits (pos n) y b e = rw e (of_z-to_z {w = w32} {n = n} (record { fits = omega (arith, b.below) }))
+machine_bits (negsuc n) y b e = rw e (of_z-to_z {w = w32} {n = 4294967296 - suc n} (record { fits = omega (arith, b.below) }) ∙ omega arith)
+
+pub machine_bytes : (n u : ℕ) → n ≡ u → u < 4294967296 → to_le_bytes w32 n ≡ four_bytes u
+machine_bytes n u e h =
+    let f : u / 256 ^ 1 ≡ u / 256 = omega arith in
+    let g : u / 256 ^ 2 ≡ u / 256 / 256 = omega arith in
+    let k : u / 256 ^ 3 % 256 ≡ u / 256 / 256 / 256 = omega arith in
+    rw (e, f, g, k) refl
 
 -- ---- bytes further on
 pub byte_drop : (s : List ℕ) (at i : ℕ) → byte (drop at s) i ≡ byte s (at + i)

@@ -1,11 +1,11 @@
 -- The terms of a polynomial (01, "The system file", kind 2): 7 bytes each, i1, i2, i3 and the coefficient; and the coefficients that they say, place by
 -- place. Of a head they know its layout. Definitions only.
-use Rattle.std.specs.Prelude.{ℕ, zero, suc, ◌+◌, ◌-◌, Bool, cond, ◌&&◌, not, List, [], ◌∷◌, leb, ltb, eqb, ℤ, pos, nat_abs, drop}
+use Rattle.std.specs.Prelude.{ℕ, zero, suc, ◌+◌, ◌-◌, Bool, cond, ◌&&◌, not, List, [], ◌∷◌, leb, ltb, eqb, ℤ, pos, nat_abs, drop, Result, Ok, ⊤}
 use Rattle.bernstein.specs.Three.{three}
 use Rattle.bernstein.specs.Numbers.{Index}
 use Rattle.file.specs.Bytes.{byte, word32, signed32}
 use Rattle.system.specs.declared.refusal.Refusal.{Refusal}
-use Rattle.system.specs.declared.head.Checked.{Checked}
+use Rattle.system.specs.declared.refusal.Refused.{Refused}
 use Rattle.system.specs.Chain.{test, ◌then◌}
 use Rattle.file.specs.Layout.{Layout}
 
@@ -26,15 +26,15 @@ abbrev pub is_zero : ℤ → Bool
 is_zero x = eqb (nat_abs x) 0
 
 -- "per term 5, 6, 7": exponents, coefficient, place at least `next`
-unfoldable pub term : Layout → ℕ → ℕ → List ℕ → Checked
+unfoldable pub term : Layout → ℕ → ℕ → List ℕ → Result ⊤ Refused
 term L o next r =
     test (L.within (exponents r)) Refusal.ExponentTooHigh o
     then test (in_range (value_of r) && not (is_zero (value_of r))) Refusal.BadCoefficient o
     then test (leb next (place_of L r)) Refusal.NotRising o
 
 -- t terms; next is one above the place of the term before
-unfoldable pub terms : Layout → ℕ → ℕ → ℕ → List ℕ → Checked
-terms L zero o next r = Checked.Good
+unfoldable pub terms : Layout → ℕ → ℕ → ℕ → List ℕ → Result ⊤ Refused
+terms L zero o next r = Ok tt
 terms L (suc t) o next r = term L o next r then terms L t (o + 7) (place_of L r + 1) (drop 7 r)
 
 -- ---- the coefficients

@@ -1,9 +1,30 @@
 // The records of a file: one record from an offset on, its body as a part of the lent file, and the record that is due.
-ghost use Rattle.std.specs.Prelude.{◌≡◌, ◌<◌, drop};
-ghost use Rattle.file.specs.Records.{step, body, fits, due};
+// File and offset stay two parameters: the definitions are of an offset and of what is left there, and over a Reader each contract would be longer.
+ghost use Rattle.std.specs.Prelude.{◌≡◌, ◌+◌, ◌<◌, ◌≤◌, length, drop, IfOk};
+ghost use Rattle.file.specs.Bytes.{word16};
+ghost use Rattle.file.specs.Records.{kind_number, step, body, fits, due};
 
-use system::head::Checked;
+use crate::bytes::two;
 use system::refusal::{Refusal, Refused};
+
+#[derive(Clone, Copy, PartialEq, Eq)]
+pub enum Kind {
+    Head,
+    Polynomial,
+    End,
+}
+
+impl From<Kind> for u8 {
+    ghost from_gives = { λ k n. n ≡ kind_number k };
+
+    fn from(kind: Kind) -> u8 {
+        match kind {
+            Kind::Head => 1,
+            Kind::Polynomial => 2,
+            Kind::End => 3,
+        }
+    }
+}
 
 // The lengths that a body may have: base, and up to `most` times `unit` more.
 #[derive(Clone, Copy)]
@@ -13,63 +34,45 @@ pub struct Shape {
     pub most: usize,
 }
 
-// A record: its kind, where its body starts, and the body's length.
-#[derive(Clone, Copy)]
-pub enum Step {
-    Record {
-        kind: usize,
-        start: usize,
-        len: usize,
-    },
-    Refused(Refused),
+// A record: its kind, where its body starts, and the body's length. The kind is the number that stands there: a step takes a record of any kind.
+#[derive(Clone, Copy, PartialEq, Eq)]
+pub struct Record {
+    pub kind: usize,
+    pub start: usize,
+    pub len: usize,
 }
 
 // The record from `at` on, whatever its kind.
-pub fn record_at(file: &[u8], at: usize) -> Step
-    ensures { result ≡ step at (drop at file.now) }
+#[tactic(auto, unfolding(crate::specs::Records::step), using(crate::proofs::Stepping::length_there, crate::proofs::Stepping::kind_there))]
+pub fn record_at(file: &[u8], at: usize) -> Result<Record, Refused>
+    ensures says { result ≡ step at (drop at file.now) }
+    ensures inside { IfOk result (λ r. r.start + r.len ≤ length file.now) }
 {
-    if file.len() < at {
-        return Step::Refused(Refused {
-            why: Refusal::Ended,
-            at,
-        });
-    }
-    let left = file.len() - at;
+    let left = file.len().saturating_sub(at);
     if left < 4 {
-        return Step::Refused(Refused {
-            why: Refusal::Ended,
-            at,
-        });
+        return Err(Refusal::Ended.at(at));
     }
-    let len = crate::bytes::two(file, at);
+    let len = two(file, at);
     if left - 4 < len {
-        return Step::Refused(Refused {
-            why: Refusal::Ended,
-            at,
-        });
+        return Err(Refusal::Ended.at(at));
     }
-    Step::Record {
-        kind: crate::bytes::two(file, at + 2),
+    Ok(Record {
+        kind: two(file, at + 2),
         start: at + 4,
         len,
-    }
+    })
 }
 
 // Its body, a part of the file; the empty part where the record is cut short.
 pub fn body_at<'a>(file: &'a [u8], at: usize) -> &'a [u8]
     ensures { result.now ≡ body file.now at }
 {
-    let step = record_at(file, at);
-    match step {
-        Step::Record {
-            kind: _,
-            start,
-            len,
-        } => {
-            let end = start + len;
-            &file[start..end]
+    match record_at(file, at) {
+        Ok(found) => {
+            let end = found.start + found.len;
+            &file[found.start..end]
         }
-        Step::Refused(_) => &file[0..0],
+        Err(_) => &file[0..0],
     }
 }
 
@@ -77,54 +80,31 @@ fn allowed(shape: Shape, n: usize) -> bool
     requires { 0 < shape.unit }
     ensures { result ≡ fits shape n }
 {
-    let base = shape.base;
-    let unit = shape.unit;
-    if n < base {
-        return false;
-    }
-    let more = n - base;
-    if more % unit != 0 {
-        return false;
-    }
-    more / unit <= shape.most
+    n >= shape.base
+        && (n - shape.base) % shape.unit == 0
+        && (n - shape.base) / shape.unit <= shape.most
 }
 
 // The record that is due at `at`: header, kind, length, body, in this order.
-pub(crate) fn due_at(file: &[u8], at: usize, kind: usize, shape: Shape) -> Checked
+#[tactic(auto, unfolding(crate::specs::Records::due), using(crate::proofs::Stepping::length_there, crate::proofs::Stepping::kind_there))]
+pub(crate) fn due_at(file: &[u8], at: usize, kind: Kind, shape: Shape) -> Result<(), Refused>
     requires { 0 < shape.unit }
-    ensures { result ≡ due kind shape at (drop at file.now) }
+    ensures says { result ≡ due (kind_number kind) shape at (drop at file.now) }
+    ensures room { IfOk result (λ u. (at + 4 + word16 file.now at ≤ length file.now) × (shape.base ≤ word16 file.now at)) }
 {
-    if file.len() < at {
-        return Checked::Refused(Refused {
-            why: Refusal::Ended,
-            at,
-        });
-    }
-    let left = file.len() - at;
+    let left = file.len().saturating_sub(at);
     if left < 4 {
-        return Checked::Refused(Refused {
-            why: Refusal::Ended,
-            at,
-        });
+        return Err(Refusal::Ended.at(at));
     }
-    if crate::bytes::two(file, at + 2) != kind {
-        return Checked::Refused(Refused {
-            why: Refusal::NotDue,
-            at,
-        });
+    if two(file, at + 2) != usize::from(u8::from(kind)) {
+        return Err(Refusal::NotDue.at(at));
     }
-    let len = crate::bytes::two(file, at);
+    let len = two(file, at);
     if !allowed(shape, len) {
-        return Checked::Refused(Refused {
-            why: Refusal::WrongLength,
-            at,
-        });
+        return Err(Refusal::WrongLength.at(at));
     }
     if left - 4 < len {
-        return Checked::Refused(Refused {
-            why: Refusal::Ended,
-            at,
-        });
+        return Err(Refusal::Ended.at(at));
     }
-    Checked::Good
+    Ok(())
 }

@@ -1,4 +1,5 @@
 pub mod Parts
+pub mod Made
 pub mod Rows
 pub mod Turns
 pub mod Passes

@@ -1,23 +1,25 @@
--- A loop that tests the numbers of a part two at a turn, whatever the test: at the start, after two that pass, at a failure, at the last number of an odd
--- count, and at the end. And what the first number and one such loop say of the sign. Assumes nothing.
-use mathlib.Core.Path.{◌≡◌, refl, sym, subst}
+-- What a test of each number of a part says of the part, and what the first number and one such test say of the part's sign. Assumes nothing.
+use mathlib.Core.Path.{◌≡◌, refl, sym, ap, subst, ◌∙◌}
 use mathlib.Core.Bool.{Bool, true, false}
-use mathlib.Core.Logic.{◌↔◌, ⊎_elim}
+use mathlib.Core.Logic.{◌↔◌}
 use mathlib.Core.List.{List}
-use Prim.Native.Nat.{ℕ, ◌+◌, ◌-◌, ◌≤◌, ◌<◌}
+use Prim.Native.Nat.{ℕ, zero, suc, ◌+◌, ◌-◌, ◌≤◌, ◌<◌}
 use native.Mathlib.Omega.{arith}
-use lib.Dec.{T, ltb→lt}
-use lib.IntN.{ℤ, pos, negsuc, nat_abs, ◌-ℤ◌}
-use lib.ListN.{get_or}
-use lib.Signed.{lt_z, le_z, ◌<ℤ◌, ◌≤ℤ◌}
-use Rattle.whole.specs.Size.{Below}
-use Rattle.whole.proofs.Machine.{iff_yes, iff_no, lt_z_true, le_z_true}
-use Rattle.whole.proofs.Order.{≤ℤ-or-<ℤ}
-use Rattle.whole.proofs.Sizes.{bound_in, bound_under}
-use Rattle.whole.proofs.Parts.{by_lt}
+use lib.Dec.{T, ltb→lt, lt→ltb}
+use lib.IntN.{ℤ, pos, negsuc}
+use lib.ListN.{length, get_or}
+use Rattle.std.proofs.Common.{rules}
+use Rattle.std.proofs.lemmas.List.{places}
+use Rattle.std.specs.List.{between}
+use lib.Signed.{lt_z, ◌<ℤ◌}
+use Rattle.whole.proofs.Machine.{iff_yes, iff_no, lt_z_true}
 use Rattle.bernstein.specs.Points.{Sign, above, below, Has}
-use Rattle.lines.specs.Sides.{Each, AtMost, side, SideIs}
-use Rattle.lines.specs.declared.sides.Side.TheVariants.{Mixed}
+use Rattle.lines.specs.Inside.{AllAnswer}
+use Rattle.lines.specs.Sides.{Each, side, SideIs}
+use Rattle.whole.specs.Side.{side_of}
+use Rattle.whole.specs.declared.Sign as Whole
+use Rattle.std.specs.Bool.{then_some}
+use Rattle.std.specs.Prelude.{Option, Some}
 
 -- ---- a test that answered b
 true_of : (b : Bool) → T b → b ≡ true
@@ -27,102 +29,63 @@ true_of false t = absurd t
 pub iff-< : (a b : ℤ) → (lt_z a b ≡ true) ↔ (a <ℤ b)
 iff-< a b = (lt_z_true, λ p. true_of (lt_z a b) p.lt)
 
-iff-≤ : (a b : ℤ) → (le_z a b ≡ true) ↔ (a ≤ℤ b)
-iff-≤ a b = (le_z_true, λ p. true_of (le_z a b) p.le)
-
 pub failed : {P : Type 0} {b : Bool} → (b ≡ true) ↔ P → b ≡ false → P → ⊥
-failed e f p = let t = e.1 p in let z : ◌≡◌ {A = ℕ} 0 1 = cc in omega arith
+failed e f p = let t = e.1 p in cc
 
--- a number that is at most b: the second of two tests says whether it is at most b in size
-pub lower_bound : (b x : ℤ) → pos 0 ≤ℤ b → x ≤ℤ b → (le_z (pos 0 -ℤ b) x ≡ true) ↔ AtMost (nat_abs b) x
-lower_bound b x nn p = (
-  λ e. omega (arith, bound_in b x nn p (le_z_true e)),
-  λ h. ⊎_elim (λ q. (iff-≤ (pos 0 -ℤ b) x).1 q) (λ q. absurd (bound_under b x nn q h)) (≤ℤ-or-<ℤ (pos 0 -ℤ b) x),
-)
+-- ---- a part with no number
+pub empty : {P : ℤ → Type 0} {l : List ℤ} {start stop : ℕ} → stop ≤ start → Each P l start stop
+empty h = record { each = λ i p q. absurd (omega arith) }
 
--- ---- the loop
-module _ {P : ℤ → Type 0} {l : List ℤ} where
-  pub none : {start : ℕ} → Each P l start start
-  none = record { each = λ i p q. absurd (omega arith) }
+-- ---- a test of each number of the part, of which each answer is known to say whether the number is so
+module _ {P : ℤ → Type 0} {E : ℤ → Bool → Type 0} {l : List ℤ} {start stop : ℕ} where
+  pub tested : {b : Bool} → start ≤ stop → stop ≤ length l → AllAnswer E (between start stop l) b → ((z : ℤ) → E z true → P z)
+      → ((z : ℤ) → E z false → (false ≡ true) ↔ P z) → (b ≡ true) ↔ Each P l start stop
+  tested {b} m fits t so not = by b t
+    where
+      long : length (between start stop l) ≡ stop - start
+      long = search (rules, places)
 
-  one : {i : ℕ} → P (get_or l i (pos 0)) → Each P l i (i + 1)
-  one {i} here = record { each = λ k p q. let z : k ≡ i = omega arith in subst (λ (x : ℕ). P (get_or l x (pos 0))) (sym z) here }
+      here : (k : ℕ) → k < stop - start → get_or (between start stop l) k (pos 0) ≡ get_or l (start + k) (pos 0)
+      here k h = search (rules, places)
 
-  pub joined : {start i stop : ℕ} → Each P l start i → Each P l i stop → Each P l start stop
-  joined {i} e f = record { each = λ k p q. by_lt k i (λ h. e.each k p h) (λ h. f.each k h q) }
-
-  inside : {start i j stop : ℕ} → start ≤ i → j ≤ stop → Each P l start stop → Each P l i j
-  inside a b e = record { each = λ k p q. e.each k (omega arith) (omega arith) }
-
-  -- the last number: what is said of it is said of all
-  pub last : {start i stop : ℕ} {b : Bool} → start ≤ i → i + 1 ≡ stop → Each P l start i → (b ≡ true) ↔ P (get_or l i (pos 0))
-      → (b ≡ true) ↔ Each P l start stop
-  last {i} h n e f = (λ t. inside (omega arith) (omega arith) (joined e (one (f.0 t))), λ g. f.1 (g.each i h (omega arith)))
-
-  -- two neighbours, of which the first passes
-  pub pair : {i : ℕ} {b : Bool} → P (get_or l i (pos 0)) → (b ≡ true) ↔ P (get_or l (i + 1) (pos 0)) → (b ≡ true) ↔ Each P l i (i + 2)
-  pair here f = last (omega arith) (omega arith) (one here) f
-
-  pub broken : {start stop : ℕ} (i j : ℕ) → start ≤ i → j ≤ stop → (Each P l i j → ⊥) → (false ≡ true) ↔ Each P l start stop
-  broken i j p q f = iff_no (λ e. f (inside p q e))
-
-  -- a part whose first number fails
-  pub at_first : {start stop : ℕ} → start < stop → (P (get_or l start (pos 0)) → ⊥) → (false ≡ true) ↔ Each P l start stop
-  at_first {start} h f = iff_no (λ e. f (e.each start (omega arith) h))
-
-  pub passed : {start i stop : ℕ} → stop ≤ i → Each P l start i → (true ≡ true) ↔ Each P l start stop
-  passed h e = iff_yes (inside (omega arith) h e)
-
-  -- the same, counted from the part's start
-  pub each_part : (start size : ℕ) → Each P l start (start + size) ↔ ((x : ℕ) → x < size → P (get_or l (start + x) (pos 0)))
-  each_part start size = (
-    λ e x h. e.each (start + x) (omega arith) (omega arith),
-    λ f. record {
-      each = λ i p q. let z : start + (i - start) ≡ i = omega arith in subst (λ (x : ℕ). P (get_or l x (pos 0))) z (f (i - start) (omega arith));
-    },
-  )
+      by : (b : Bool) → AllAnswer E (between start stop l) b → (b ≡ true) ↔ Each P l start stop
+      by true t = iff_yes (record {
+        each = λ i p q. let h : i - start < stop - start = omega arith in let e : start + (i - start) ≡ i = omega arith in
+            subst (λ (x : ℕ). P (get_or l x (pos 0))) e (subst P (here (i - start) h) (so _ (t.every refl (i - start) (omega (arith, long)))));
+      })
+      by false t =
+          let w = t.one refl in let q : w.0 < stop - start = omega (arith, long, w.1) in
+          iff_no (λ e. failed (not _ w.2) refl (subst P (sym (here w.0 q)) (e.each (start + w.0) (omega arith) (omega arith))))
 
 -- ---- the side
 pub not_both : (z : ℤ) → Has above z → Has below z → ⊥
 not_both (pos n) p q = let h : n < 0 = ltb→lt n 0 q.lt in omega arith
 not_both (negsuc n) p q = p.lt
 
-module _ {l : List ℤ} {start stop : ℕ} (some : start < stop) where
-  -- the part has a first number
-  first : (s : Sign) → Each (Has s) l start stop → Has s (get_or l start (pos 0))
-  first s e = e.each start (omega arith) some
+-- a number of which `whole::side_of` told the sign
+pub told : (s : Sign) {z x : ℤ} {r : Option Whole.Sign} {v : Whole.Sign} → r ≡ side_of z → r ≡ Some v → v ≡ side s → z ≡ x → Has s x
+told s {z} e e' e'' same = subst (Has s) same (by s z (sym e ∙ e' ∙ ap Some e''))
+  where
+    by : (s : Sign) (z : ℤ) → side_of z ≡ Some (side s) → Has s z
+    by above (pos zero) q = absurd cc
+    by above (pos (suc n)) q = record { lt = lt→ltb 0 (suc n) (omega arith) }
+    by above (negsuc n) q = absurd cc
+    by below (pos zero) q = absurd cc
+    by below (pos (suc n)) q = absurd cc
+    by below (negsuc n) q = record { lt = tt }
 
-  pub one_side : (s : Sign) → Each (Has s) l start stop → SideIs l start stop (side s)
-  one_side s e = record { is = by s e }
-    where
-      by : (s : Sign) → Each (Has s) l start stop → (t : Sign) → (side s ≡ side t) ↔ Each (Has t) l start stop
-      by above e above = (λ q. e, λ f. refl)
-      by above e below = (λ q. absurd (let z : ◌≡◌ {A = ℕ} 0 1 = cc in omega arith), λ f. absurd (not_both (get_or l start (pos 0)) (first above e) (first below f)))
-      by below e above = (λ q. absurd (let z : ◌≡◌ {A = ℕ} 0 1 = cc in omega arith), λ f. absurd (not_both (get_or l start (pos 0)) (first above f) (first below e)))
-      by below e below = (λ q. e, λ f. refl)
-
-  pub no_side : ((s : Sign) → Each (Has s) l start stop → ⊥) → SideIs l start stop Mixed
-  no_side none = record { is = λ s. by s (none s) }
-    where
-      by : (s : Sign) → (Each (Has s) l start stop → ⊥) → (Mixed ≡ side s) ↔ Each (Has s) l start stop
-      by above f = (λ q. absurd (let z : ◌≡◌ {A = ℕ} 0 1 = cc in omega arith), λ e. absurd (f e))
-      by below f = (λ q. absurd (let z : ◌≡◌ {A = ℕ} 0 1 = cc in omega arith), λ e. absurd (f e))
-
-  -- what the first number and the loop leave
-  pub first_above : Has above (get_or l start (pos 0)) → (Each (Has above) l start stop → ⊥) → SideIs l start stop Mixed
-  first_above h f = no_side by
-    where
-      by : (s : Sign) → Each (Has s) l start stop → ⊥
-      by above e = f e
-      by below e = not_both (get_or l start (pos 0)) h (first below e)
-
-  pub first_not : (Has above (get_or l start (pos 0)) → ⊥) → (Each (Has below) l start stop → ⊥) → SideIs l start stop Mixed
-  first_not h f = no_side by
-    where
-      by : (s : Sign) → Each (Has s) l start stop → ⊥
-      by above e = h (first above e)
-      by below e = f e
-
--- ---- a bound, said as a size below a number: `Cuttable` and `Stored` speak so
-pub at_most_below : {m bound : ℕ} {z : ℤ} → bound + 1 ≡ m → AtMost bound z ↔ Below m z
-at_most_below e = (λ h. record { below = omega arith }, λ h. omega (arith, h.below))
+-- the first number has a sign, so it is the only one that all can have
+pub sided : {l : List ℤ} {start stop : ℕ} (s : Sign) {b : Bool} → start < stop → Has s (get_or l start (pos 0)) → (b ≡ true) ↔ Each (Has s) l start stop
+    → SideIs l start stop (then_some b (side s))
+sided {l} {start} {stop} s {b} some h e = record { is = by s b h e }
+  where
+    by : (s : Sign) (b : Bool) → Has s (get_or l start (pos 0)) → (b ≡ true) ↔ Each (Has s) l start stop
+        → (t : Sign) → (then_some b (side s) ≡ Some (side t)) ↔ Each (Has t) l start stop
+    by above true h e above = (λ q. e.0 refl, λ f. refl)
+    by above true h e below = (λ q. absurd cc, λ f. absurd (not_both _ h (f.each start (omega arith) some)))
+    by above false h e above = (λ q. absurd cc, λ f. absurd (failed e refl f))
+    by above false h e below = (λ q. absurd cc, λ f. absurd (not_both _ h (f.each start (omega arith) some)))
+    by below true h e above = (λ q. absurd cc, λ f. absurd (not_both _ (f.each start (omega arith) some) h))
+    by below true h e below = (λ q. e.0 refl, λ f. refl)
+    by below false h e above = (λ q. absurd cc, λ f. absurd (not_both _ (f.each start (omega arith) some) h))
+    by below false h e below = (λ q. absurd cc, λ f. absurd (failed e refl f))

@@ -8,8 +8,8 @@ use native.Mathlib.Omega.{arith}
 use lib.IntN.{ℤ}
 use lib.ListN.{length}
 use Rattle.whole.specs.Half.{Half, lower, upper}
-use Rattle.lines.specs.Lines.{Line, Off, Under, Worked, InBlocks, LinesCut, half_at, halves, Room, ReadyBlocks}
-use Rattle.lines.specs.Inside.{Few, Ready}
+use Rattle.lines.specs.Lines.{Line, Off, Worked, InBlocks, LinesCut, half_at, halves, Room, ReadyBlocks}
+use Rattle.lines.specs.Inside.{Ready}
 use Rattle.lines.proofs.Rows.{row_le, row_lt}
 
 pub cut_room : {up lo size : ℕ} {l : List ℤ} → up + size ≤ lo → lo + size ≤ length l → Room (half_at up lo) size l
@@ -62,31 +62,24 @@ half_ready up lo d {w} {inner} {n} {l} y = subst (λ b. Ready b upper w inner n 
 pub half_worked : (up lo d : ℕ) {F : ℕ → Type 0} {inner n : ℕ} {old new : List ℤ} → LinesCut F (up + d) (lo + d) inner n old new → Worked (halves n) (λ h. half_at up lo h + d) upper F inner n old new
 half_worked up lo d {F} {inner} {n} {old} {new} c = subst⁻¹ (λ b. Worked (halves n) b upper F inner n old new) (half_shift up lo d) c
 
--- ---- at a degree that a test has found, and at a block of one line
-pub ready_at : {w up lo inner n : ℕ} {l : List ℤ} (k : ℕ) → 1 ≤ w → w ≤ 2 → n ≡ k → Ready (half_at up lo) upper w inner n l → Few w × Ready (half_at up lo) upper w inner k l
-ready_at {w} {up} {lo} {inner} {n} {l} k a b e y = (record { some = a; most = b }, subst (λ (x : ℕ). Ready (half_at up lo) upper w inner x l) e y)
+-- ---- where the entries of a line are neighbours, and at a degree that a test has found
+pub lines_at : {up lo outer inner n : ℕ} {l : List ℤ} (k : ℕ) → inner ≡ k → ReadyBlocks (half_at up lo) upper outer inner n l
+    → ReadyBlocks (half_at up lo) upper outer k n l
+lines_at {up} {lo} {outer} {inner} {n} {l} k e y = subst (λ (x : ℕ). ReadyBlocks (half_at up lo) upper outer x n l) e y
 
-pub cut_at : {F : ℕ → Type 0} {old new : List ℤ} {up lo inner n : ℕ} (k : ℕ) → n ≡ k → LinesCut F up lo inner k old new → LinesCut F up lo inner n old new
-cut_at {F} {old} {new} {up} {lo} {inner} k e c = subst⁻¹ (λ (x : ℕ). LinesCut F up lo inner x old new) e c
+pub lines_cut_at : {up lo outer inner n : ℕ} {old new : List ℤ} (k : ℕ) → inner ≡ k → LinesCut (InBlocks ((n + 1) * k) k outer) up lo k n old new
+    → LinesCut (InBlocks ((n + 1) * inner) inner outer) up lo inner n old new
+lines_cut_at {up} {lo} {outer} {inner} {n} {old} {new} k e c =
+    subst⁻¹ (λ (x : ℕ). LinesCut (InBlocks ((n + 1) * x) x outer) up lo x n old new) e c
 
-pub narrow : {H : Type 0} {base : H → ℕ} {from : H} {inner n : ℕ} {l : List ℤ} → inner ≡ 1 → Ready base from inner inner n l → Ready base from 1 1 n l
-narrow {base} {from} {n} {l} e y = subst (λ (x : ℕ). Ready base from x x n l) e y
+pub blocks_at : {up lo outer inner n : ℕ} {l : List ℤ} (k : ℕ) → n ≡ k → ReadyBlocks (half_at up lo) upper outer inner n l
+    → ReadyBlocks (half_at up lo) upper outer inner k l
+blocks_at {up} {lo} {outer} {inner} {n} {l} k e y = subst (λ (x : ℕ). ReadyBlocks (half_at up lo) upper outer inner x l) e y
 
-pub narrowed : {H : Type 0} {base : H → ℕ} {from : H} {inner n : ℕ} {work : H → Line → Line} {old new : List ℤ} → inner ≡ 1
-    → Worked work base from (Under 1) 1 n old new → Worked work base from (Under inner) inner n old new
-narrowed {base} {from} {n} {work} {old} {new} e c = subst⁻¹ (λ (x : ℕ). Worked work base from (Under x) x n old new) e c
-
--- the same of blocks
-pub blocks_at : {up lo outer inner w n : ℕ} {l : List ℤ} (k : ℕ) → inner ≡ w → n ≡ k
-    → ReadyBlocks (half_at up lo) upper outer inner n l → ReadyBlocks (half_at up lo) upper outer w k l
-blocks_at {up} {lo} {outer} {inner} {n} {l} k e d y =
-    subst (λ (x : ℕ). ReadyBlocks (half_at up lo) upper outer x k l) e (subst (λ (x : ℕ). ReadyBlocks (half_at up lo) upper outer inner x l) d y)
-
-pub blocks_cut_at : {up lo outer inner w n : ℕ} {old new : List ℤ} (k : ℕ) → inner ≡ w → n ≡ k
-    → LinesCut (InBlocks ((k + 1) * w) w outer) up lo w k old new → LinesCut (InBlocks ((n + 1) * inner) inner outer) up lo inner n old new
-blocks_cut_at {up} {lo} {outer} {inner} {n} {old} {new} k e d c =
-    subst⁻¹ (λ (x : ℕ). LinesCut (InBlocks ((x + 1) * inner) inner outer) up lo inner x old new) d
-    (subst⁻¹ (λ (x : ℕ). LinesCut (InBlocks ((k + 1) * x) x outer) up lo x k old new) e c)
+pub blocks_cut_at : {up lo outer inner n : ℕ} {old new : List ℤ} (k : ℕ) → n ≡ k → LinesCut (InBlocks ((k + 1) * inner) inner outer) up lo inner k old new
+    → LinesCut (InBlocks ((n + 1) * inner) inner outer) up lo inner n old new
+blocks_cut_at {up} {lo} {outer} {inner} {n} {old} {new} k e c =
+    subst⁻¹ (λ (x : ℕ). LinesCut (InBlocks ((x + 1) * inner) inner outer) up lo inner x old new) e c
 
 -- a count that is another
 pub at_count : {H : Type 0} {base : H → ℕ} {from : H} {inner n : ℕ} {work : H → Line → Line} {old new : List ℤ} (G : ℕ → ℕ → Type 0) {q r : ℕ} → q ≡ r

@@ -15,7 +15,7 @@ use Rattle.bernstein.specs.Numbers.{after, half_line}
 use Rattle.bernstein.proofs.Lines.{after_sum, after_same}
 use Rattle.bernstein.proofs.Sizes.{after_below, half_below}
 use Rattle.lines.specs.Lines.{at, Line, along, Off, Under, InPlace, LinesCut, half_at}
-use Rattle.lines.specs.Inside.{RowPut, sum_down, summed, raised, Few, Row, Block, EntriesBelow, SumsBelow, RaisedBelow, Ready}
+use Rattle.lines.specs.Inside.{RowPut, sum_down, summed, raised, Row, Block, EntriesBelow, SumsBelow, RaisedBelow, Ready}
 use Rattle.lines.proofs.Rows.{row_le, same_row, this_row, other_row, off_row}
 
 -- ---- one line
@@ -65,7 +65,7 @@ no_stage = record {
   kept = λ p o. refl;
 }
 
-module _ {w up lo inner n : ℕ} {old : List ℤ} (few : Few w) (y : Ready (half_at up lo) upper w inner n old) where
+module _ {w up lo inner n : ℕ} {old : List ℤ} (y : Ready (half_at up lo) upper w inner n old) where
   deg : n ≤ 62
   deg = omega (arith, y.degree)
 
@@ -80,7 +80,7 @@ module _ {w up lo inner n : ℕ} {old : List ℤ} (few : Few w) (y : Ready (half
   never f i g k h m h' m' z = not_half (y.room.once upper lower (f + i * inner) (g + k * inner) (inside f i h m) (inside g k h' m') (omega arith))
 
   pub block : {l : List ℤ} (m : ℕ) → m ≤ n → length l ≡ length old → Block w up inner m l
-  block m h e = record { few = few; apart = y.apart; fits = omega (arith, row_le inner h, y.room.fits upper) }
+  block m h e = record { apart = y.apart; fits = omega (arith, row_le inner h, y.room.fits upper) }
 
   module _ {j : ℕ} {l : List ℤ} (jn : j ≤ n) (t : Staged w up lo inner n old j l) where
     pub entries_below : EntriesBelow w up inner j l
@@ -108,7 +108,6 @@ module _ {w up lo inner n : ℕ} {old : List ℤ} (few : Few w) (y : Ready (half
 
       pub foot_row : Row (2 ^ 63) w up (λ z. pos (2 ^ (n - j)) *ℤ z) l₁
       foot_row = record {
-        few = few;
         fits = omega (arith, y.room.fits upper, s.size, t.size);
         small = λ f h. rw (foot_is f h) (below_le (lit≤ tt) (half_below n deg (line f) (λ x r. y.small f x h r) lower j jn));
       }

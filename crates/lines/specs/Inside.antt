@@ -1,6 +1,6 @@
--- What the private functions promise and ask: rows of one or two numbers, and the work of each loop on one or two lines. The public contracts do not
+-- What the private functions promise and ask: rows of w neighbouring numbers, and the work of each loop on w neighbouring lines. The public contracts do not
 -- mention any of it. Definitions only.
-use Rattle.std.specs.Prelude.{◌≡◌, cond, List, ℕ, zero, suc, ◌+◌, ◌*◌, ◌-◌, ◌^◌, ◌≤◌, ◌<◌, ltb, ℤ, pos, ◌+ℤ◌, ◌*ℤ◌, length}
+use Rattle.std.specs.Prelude.{◌≡◌, Bool, true, false, cond, List, ℕ, zero, suc, ◌+◌, ◌*◌, ◌-◌, ◌^◌, ◌≤◌, ◌<◌, ltb, ℤ, pos, ◌+ℤ◌, ◌*ℤ◌, length}
 use Rattle.whole.specs.Size.{Below}
 use Rattle.lines.specs.Lines.{at, Line, along, Room}
 
@@ -27,6 +27,11 @@ pub record RowPut (a w : ℕ) (v : ℕ → ℤ) (old new : List ℤ) : Type 0 wh
   pub put : (f : ℕ) → f < w → at new (a + f) ≡ v f
   pub kept : (p : ℕ) → ((f : ℕ) → f < w → p ≡ a + f → ⊥) → at new p ≡ at old p
 
+-- ---- r says of a test that is made of each number whether all were answered true; E z b says that z can be answered b
+pub record AllAnswer (E : ℤ → Bool → Type 0) (l : List ℤ) (r : Bool) : Type 0 where
+  pub every : r ≡ true → (k : ℕ) → k < length l → E (at l k) true
+  pub one : r ≡ false → (k : ℕ) × (k < length l) × E (at l k) false
+
 -- ---- what is asked
 -- w neighbouring lines of degree n at base from, which can be cut
 pub record Ready {H : Type 0} (base : H → ℕ) (from : H) (w inner n : ℕ) (l : List ℤ) : Type 0 where
@@ -35,19 +40,13 @@ pub record Ready {H : Type 0} (base : H → ℕ) (from : H) (w inner n : ℕ) (l
   pub room : Room base (w + n * inner) l
   pub small : (f i : ℕ) → f < w → i ≤ n → Below (2 ^ (62 - n)) (at l (base from + f + i * inner))
 
-pub record Few (w : ℕ) : Type 0 where
-  pub some : 1 ≤ w
-  pub most : w ≤ 2
-
 -- w numbers from a on
 pub record Row (m : ℕ) (w a : ℕ) (f : ℤ → ℤ) (l : List ℤ) : Type 0 where
-  pub few : Few w
   pub fits : a + w ≤ length l
   pub small : (g : ℕ) → g < w → Below m (f (at l (a + g)))
 
 -- w lines of degree n at first
 pub record Block (w first inner n : ℕ) (l : List ℤ) : Type 0 where
-  pub few : Few w
   pub apart : w ≤ inner
   pub fits : first + (w + n * inner) ≤ length l
 

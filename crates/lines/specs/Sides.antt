@@ -1,9 +1,9 @@
 -- What can be said of every number of a part of a store (01, "One visit": all numbers above zero, or all below, "zero is neither"; "at most .. in size").
 -- Definitions only.
-use Rattle.std.specs.Prelude.{◌≡◌, Bool, true, false, ◌↔◌, List, ℕ, ◌≤◌, ◌<◌, ℤ, pos, nat_abs, get_or}
+use Rattle.std.specs.Prelude.{◌≡◌, ◌↔◌, List, ℕ, ◌≤◌, ◌<◌, ℤ, pos, nat_abs, get_or, Option, Some}
 use Rattle.bernstein.specs.Points.{Sign, above, below, Has}
-use Rattle.lines.specs.declared.sides.Side.{Side}
-use Rattle.lines.specs.declared.sides.Side.TheVariants.{Above, Below}
+use Rattle.whole.specs.declared.Sign as Whole
+use Rattle.whole.specs.declared.Sign.TheVariants.{Above, Below}
 
 -- every number of l from place start to the place before stop is so
 pub record Each (P : ℤ → Type 0) (l : List ℤ) (start stop : ℕ) : Type 0 where
@@ -13,15 +13,11 @@ pub record Each (P : ℤ → Type 0) (l : List ℤ) (start stop : ℕ) : Type 0 
 abbrev pub AtMost : ℕ → ℤ → Type 0
 AtMost bound z = nat_abs z ≤ bound
 
--- the sign that the code names by a bool, and the answer for each sign
-abbrev pub sign : Bool → Sign
-sign true = above
-sign false = below
-
-abbrev pub side : Sign → Side
+-- the answer for each sign
+abbrev pub side : Sign → Whole.Sign
 side above = Above
 side below = Below
 
--- the answer names a sign where every number has it; neither sign: Mixed
-pub record SideIs (l : List ℤ) (start stop : ℕ) (r : Side) : Type 0 where
-  pub is : (s : Sign) → (r ≡ side s) ↔ Each (Has s) l start stop
+-- the answer is a sign exactly where every number has it
+pub record SideIs (l : List ℤ) (start stop : ℕ) (r : Option Whole.Sign) : Type 0 where
+  pub is : (s : Sign) → (r ≡ Some (side s)) ↔ Each (Has s) l start stop

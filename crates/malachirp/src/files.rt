@@ -3,9 +3,10 @@ ghost use Rattle.std.specs.Prelude.{◌≡◌};
 ghost use Rattle.malachirp.specs.Codes.{left};
 ghost use Rattle.malachirp.specs.Calls.{read_call, write_call};
 
-use crate::codes::{head_from, head_numbers, refuse};
-use file::reading::{Answer, read};
-use writing::{Written, write};
+use crate::codes::refuse;
+use file::reading::read;
+use system::head::Head;
+use writing::write;
 
 #[unsafe(no_mangle)]
 pub extern "C" fn malachirp_read(
@@ -17,14 +18,13 @@ pub extern "C" fn malachirp_read(
     ensures { read_call file.now coefficients.old head.old
         ≡ left result offset.new (coefficients.new, head.new) }
 {
-    let a = read(file, coefficients);
-    match a {
-        Answer::System(h) => {
-            *head = head_numbers(h);
+    match read(file, coefficients) {
+        Ok(h) => {
+            *head = h.into();
             *offset = 0;
             0
         }
-        Answer::Refused(x) => refuse(x, offset),
+        Err(x) => refuse(x, offset),
     }
 }
 
@@ -39,13 +39,12 @@ pub extern "C" fn malachirp_write(
     ensures { write_call head.now coefficients.now file.old length.old
         ≡ left result offset.new (file.new, length.new) }
 {
-    let a = write(head_from(head), coefficients, file);
-    match a {
-        Written::Length(n) => {
+    match write(Head::from(*head), coefficients, file) {
+        Ok(n) => {
             *length = n as u64;
             *offset = 0;
             0
         }
-        Written::Refused(x) => refuse(x, offset),
+        Err(x) => refuse(x, offset),
     }
 }

@@ -3,6 +3,7 @@
 
 pub mod codes;
 pub mod files;
+pub mod middles;
 pub mod running;
 pub mod starts;
 pub mod tables;

@@ -3,9 +3,10 @@ ghost use Rattle.std.specs.Prelude.{◌≡◌};
 ghost use Rattle.malachirp.specs.Codes.{left};
 ghost use Rattle.malachirp.specs.Calls.{run_call};
 
-use crate::codes::{head_from, refuse, state_from, state_numbers};
-use runs::plain::runs::run;
-use runs::runs::Answer;
+use crate::codes::refuse;
+use runs::runs::run;
+use system::head::Head;
+use waiting::state::State;
 
 #[unsafe(no_mangle)]
 pub extern "C" fn malachirp_run(
@@ -20,16 +21,13 @@ pub extern "C" fn malachirp_run(
     ensures { run_call head.now budget store.old list.old state.old word.old
         ≡ left result offset.new (store.new, list.new, state.new, word.new) }
 {
-    let a = run(store, list, head_from(head), state_from(state), budget);
-    match a {
-        Answer::Stopped(stop) => {
-            let end = stop.state;
-            let w = stop.word;
-            *state = state_numbers(end);
-            *word = w.number() as u32;
+    match run(store, list, Head::from(*head), State::from(*state), budget) {
+        Ok(stop) => {
+            *state = stop.state.into();
+            *word = u8::from(stop.word).into();
             *offset = 0;
             0
         }
-        Answer::Refused(x) => refuse(x, offset),
+        Err(x) => refuse(x, offset),
     }
 }

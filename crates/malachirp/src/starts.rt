@@ -3,26 +3,24 @@ ghost use Rattle.std.specs.Prelude.{◌≡◌};
 ghost use Rattle.malachirp.specs.Codes.{left};
 ghost use Rattle.malachirp.specs.Calls.{sizes_call, start_call};
 
-use crate::codes::{head_from, refuse, state_numbers};
-use system::head::Checked;
-use waiting::start::{Started, start};
+use crate::codes::refuse;
+use system::head::Head;
+use waiting::start::start;
 
 // The coefficients' places, m × S, and the waiting store's, (D + 1) × (6 + m × S).
 #[unsafe(no_mangle)]
 pub extern "C" fn malachirp_sizes(head: &[u8; 8], sizes: &mut [u64; 2], offset: &mut u64) -> u32
     ensures { sizes_call head.now sizes.old ≡ left result offset.new sizes.new }
 {
-    let h = head_from(head);
-    let c = h.check();
-    match c {
-        Checked::Good => {
-            let places = h.places();
+    let h = Head::from(*head);
+    match h.check() {
+        Ok(()) => {
             let needed = (h.depth() + 1) * h.width();
-            *sizes = [places as u64, needed as u64];
+            *sizes = [h.places() as u64, needed as u64];
             *offset = 0;
             0
         }
-        Checked::Refused(x) => refuse(x, offset),
+        Err(x) => refuse(x, offset),
     }
 }
 
@@ -37,13 +35,12 @@ pub extern "C" fn malachirp_start(
     ensures { start_call head.now coefficients.now store.old state.old
         ≡ left result offset.new (store.new, state.new) }
 {
-    let a = start(head_from(head), coefficients, store);
-    match a {
-        Started::Begun(s) => {
-            *state = state_numbers(s);
+    match start(Head::from(*head), coefficients, store) {
+        Ok(s) => {
+            *state = s.into();
             *offset = 0;
             0
         }
-        Started::Refused(x) => refuse(x, offset),
+        Err(x) => refuse(x, offset),
     }
 }

@@ -3,9 +3,8 @@ ghost use Rattle.std.specs.Prelude.{◌≡◌};
 ghost use Rattle.malachirp.specs.Codes.{left};
 ghost use Rattle.malachirp.specs.Calls.{middles_call};
 
-use crate::codes::middles::place;
 use crate::codes::refuse;
-use boxes::middle::Placed;
+use crate::middles::place;
 
 #[unsafe(no_mangle)]
 pub extern "C" fn malachirp_middles(
@@ -15,13 +14,12 @@ pub extern "C" fn malachirp_middles(
 ) -> u32
     ensures { middles_call kept.now middles.old ≡ left result offset.new middles.new }
 {
-    let p = place(kept);
-    match p {
-        Placed::At(m) => {
-            *middles = [m.middle1, m.half1, m.middle2, m.half2, m.middle3, m.half3];
+    match place(kept) {
+        Ok(m) => {
+            *middles = m.into();
             *offset = 0;
             0
         }
-        Placed::Refused(x) => refuse(x, offset),
+        Err(x) => refuse(x, offset),
     }
 }

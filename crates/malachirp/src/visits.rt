@@ -3,9 +3,10 @@ ghost use Rattle.std.specs.Prelude.{◌≡◌};
 ghost use Rattle.malachirp.specs.Codes.{left};
 ghost use Rattle.malachirp.specs.Calls.{visit_call};
 
-use crate::codes::{head_from, refuse, state_from, state_numbers, visit_numbers};
-use runs::plain::visits::visit;
-use runs::visits::Answer;
+use crate::codes::refuse;
+use runs::visits::{Answer, visit};
+use system::head::Head;
+use waiting::state::State;
 
 #[unsafe(no_mangle)]
 pub extern "C" fn malachirp_visit(
@@ -20,22 +21,19 @@ pub extern "C" fn malachirp_visit(
     ensures { visit_call head.now store.old list.old state.old seen.old word.old
         ≡ left result offset.new (store.new, list.new, state.new, seen.new, word.new) }
 {
-    let a = visit(store, list, head_from(head), state_from(state));
-    match a {
-        Answer::Saw(s) => {
-            let end = s.state;
-            let v = s.visit;
-            *state = state_numbers(end);
-            *seen = visit_numbers(v);
+    match visit(store, list, Head::from(*head), State::from(*state)) {
+        Ok(Answer::Saw(s)) => {
+            *state = s.state.into();
+            *seen = s.visit.into();
             *word = 0;
             *offset = 0;
             0
         }
-        Answer::Stopped(w) => {
-            *word = w.number() as u32;
+        Ok(Answer::Stopped(w)) => {
+            *word = u8::from(w).into();
             *offset = 0;
             0
         }
-        Answer::Refused(x) => refuse(x, offset),
+        Err(x) => refuse(x, offset),
     }
 }

@@ -1,72 +1,14 @@
 -- A list of numbers and the records in it, seven numbers to a record. Assumes nothing.
-use Prim.Native.Nat.{ℕ, zero, suc, ◌+◌, ◌*◌, ◌/◌, ◌≤◌, ◌<◌}
+use Prim.Native.Nat.{ℕ, zero, suc, ◌*◌, ◌/◌, ◌≤◌, ◌<◌}
 use mathlib.Core.Path.{◌≡◌, refl, sym, ◌∙◌, ap}
 use mathlib.Core.List.{List, [], ◌∷◌, ◌++◌}
 use native.Mathlib.Nat.{not-suc-le-zero}
 use native.Mathlib.Omega.{arith}
-use lib.ListN.{length, drop, set, length-append, length-drop, length-set}
-use lib.Seq.{sets, drop-cons, set_out, drop-drop, drop_at}
+use lib.ListN.{length, drop, set, length-set}
+use lib.Seq.{sets, set_out}
 use Rattle.waiting.specs.declared.cursor.Kept.{Kept}
-use Rattle.runs.specs.Lists.{seven, first, taken, listed, numbers, relisted, ListedBack}
-
-length_taken : (n : ℕ) (xs : List ℕ) → length (taken n xs) ≡ n
-unfolding taken
-length_taken zero xs = refl
-length_taken (suc n) xs = ap suc (length_taken n (drop 7 xs))
-
-pub length_listed : (xs : List ℕ) → length (listed xs) ≡ length xs / 7
-length_listed xs = length_taken (length xs / 7) xs
-
-length_numbers : (ks : List Kept) → length (numbers ks) ≡ 7 * length ks
-unfolding numbers
-length_numbers [] = refl
-length_numbers (k ∷ ks) = omega (arith, length_numbers ks)
-
--- ---- nothing is changed where the records stay
-whole : (xs : List ℕ) → 7 ≤ length xs → seven (first xs) ++ drop 7 xs ≡ xs
-whole xs p =
-    rw (
-      ← drop-cons xs 6 0 (omega arith),
-      ← drop-cons xs 5 0 (omega arith),
-      ← drop-cons xs 4 0 (omega arith),
-      ← drop-cons xs 3 0 (omega arith),
-      ← drop-cons xs 2 0 (omega arith),
-      ← drop-cons xs 1 0 (omega arith),
-      ← drop-cons xs 0 0 (omega arith),
-    ) refl
-
-taken_back : (n : ℕ) (xs : List ℕ) → 7 * n ≤ length xs → numbers (taken n xs) ++ drop (7 * n) xs ≡ xs
-unfolding numbers taken
-taken_back zero xs p = refl
-taken_back (suc n) xs p =
-    let at : 7 * suc n ≡ 7 + 7 * n = omega arith in
-    let e : drop (7 * suc n) xs ≡ drop (7 * n) (drop 7 xs) = ap (λ (i : ℕ). drop i xs) at ∙ sym (drop-drop (7 * n) 7 xs) in
-    ap (λ (ys : List ℕ). seven (first xs) ++ (numbers (taken n (drop 7 xs)) ++ ys)) e
-    ∙ ap (λ (ys : List ℕ). seven (first xs) ++ ys) (taken_back n (drop 7 xs) (omega (arith, length-drop 7 xs))) ∙ whole xs (omega arith)
-
-pub same_listed : (xs : List ℕ) → relisted xs (listed xs) ≡ xs
-same_listed xs =
-    ap (λ (n : ℕ). numbers (listed xs) ++ drop (7 * n) xs) (length_listed xs) ∙ taken_back (length xs / 7) xs (omega arith)
-
--- ---- the records are those that were put there
-taken_numbers : (ks : List Kept) (ys : List ℕ) → taken (length ks) (numbers ks ++ ys) ≡ ks
-unfolding numbers taken
-taken_numbers [] ys = refl
-taken_numbers (k ∷ ks) ys = ap (λ (js : List Kept). k ∷ js) (taken_numbers ks ys)
-
-module _ (xs : List ℕ) (ks : List Kept) (e : length ks ≡ length (listed xs)) where
-  pub length_relisted : length (relisted xs ks) ≡ length xs
-  length_relisted =
-      length-append (numbers ks) (drop (7 * length ks) xs) ∙ omega (arith, length_numbers ks, length-drop (7 * length ks) xs, e, length_listed xs)
-
-  pub relisted_again : (js : List Kept) → length js ≡ length ks → relisted (relisted xs ks) js ≡ relisted xs js
-  relisted_again js f =
-      ap (λ (ys : List ℕ). numbers js ++ ys)
-      (drop_at (numbers ks) (drop (7 * length ks) xs) (7 * length js) (omega (arith, length_numbers ks)) ∙ ap (λ (n : ℕ). drop (7 * n) xs) (sym f))
-
-pub listed_back : ListedBack
-listed_back xs ks e =
-    ap (λ (n : ℕ). taken n (relisted xs ks)) (omega (arith, length_relisted xs ks e, e, length_listed xs)) ∙ taken_numbers ks (drop (7 * length ks) xs)
+use Rattle.runs.specs.Listings.{length_listed, same_listed}
+use Rattle.runs.specs.Lists.{seven, listed, numbers, relisted}
 
 -- ---- seven numbers are written
 sets_numbers : (ks : List Kept) (ys : List ℕ) (to : ℕ) (k : Kept) → to < length ks → sets (numbers ks ++ ys) (7 * to) (seven k) ≡ numbers (set ks to k) ++ ys
@@ -90,10 +32,3 @@ module _ (xs : List ℕ) (to : ℕ) (k : Kept) where
 
   pub unwritten : length xs / 7 ≤ to → xs ≡ relisted xs (set (listed xs) to k)
   unwritten p = sym (ap (relisted xs) (set_out (listed xs) to k (omega (arith, length_listed xs))) ∙ same_listed xs)
-
--- ---- a record is stored in the numbers as it is in the list
-pub put_on : (xs list list' : List ℕ) (ks : List Kept) (to : ℕ) (k : Kept) → length ks ≡ length (listed xs) → list ≡ relisted xs ks
-    → list' ≡ relisted list (set (listed list) to k) → list' ≡ relisted xs (set ks to k)
-put_on xs list list' ks to k l e p =
-    p ∙ ap (λ (zs : List ℕ). relisted zs (set (listed zs) to k)) e ∙ ap (λ (js : List Kept). relisted (relisted xs ks) (set js to k)) (listed_back xs ks l)
-    ∙ relisted_again xs ks l (set ks to k) (length-set ks to k)

@@ -1,4 +1,4 @@
--- What a reader of the numbers finds after a call (01, "Runs"): the records of the run and of the visit over structs, all of them and in their places. Statements only.
+-- What a reader of the numbers finds after a call (01, "Runs"): the records of the run and of the visit over records, all of them and in their places. Statements only.
 use Rattle.std.specs.Prelude.{ℕ, ◌≡◌, List, ℤ}
 use Rattle.system.specs.declared.head.Head.{Head}
 use Rattle.waiting.specs.declared.state.State.{State}

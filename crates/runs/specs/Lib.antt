@@ -3,3 +3,4 @@ pub mod Visits
 pub mod Tables
 pub mod Lists
 pub mod Ends
+pub mod Listings

@@ -1,9 +1,8 @@
 -- A run (01, "Runs"): the state is checked, and where it is good a driver makes the steps and stores the records that they name. A refusal moves nothing, as
--- the cursor then does not go. Definitions only.
-use Rattle.std.specs.Prelude.{ℕ, ◌+◌, List, ℤ, length}
+-- the cursor is then halted. Definitions only.
+use Rattle.std.specs.Prelude.{ℕ, ◌+◌, List, ℤ, length, unwrap_or, Result, Ok, Err, ⊤}
 use Rattle.system.specs.declared.head.Head.{Head}
-use Rattle.system.specs.declared.head.Checked.{Checked}
-use Rattle.system.specs.declared.head.Checked.TheVariants.{Good, Refused as StoppedBy}
+use Rattle.system.specs.declared.refusal.Refused.{Refused}
 use Rattle.boxes.specs.declared.visit.Word.{Word}
 use Rattle.waiting.specs.declared.state.State.{State}
 use Rattle.waiting.specs.declared.cursor.Kept.{Kept}
@@ -12,25 +11,24 @@ use Rattle.waiting.specs.States.{judged}
 use Rattle.waiting.specs.Cells.{boxed}
 use Rattle.waiting.specs.Steps.{begun, halted}
 use Rattle.waiting.specs.Runs.{Way, way, went}
-use Rattle.runs.specs.declared.runs.Answer.{Answer}
-use Rattle.runs.specs.declared.runs.Answer.TheVariants.{Stopped, Refused}
+use Rattle.runs.specs.declared.runs.Stop.{Stop}
 
 -- where a run begins
-abbrev pub opened : Checked → Cursor → Cursor
-opened Good c = c
-opened (StoppedBy x) c = halted c Word.Spent
+abbrev pub opened : Result ⊤ Refused → Cursor → Cursor
+opened (Ok u) c = c
+opened (Err x) c = halted c Word.Spent
 
--- the word and the four counts, or the refusal
-abbrev pub answered : Checked → Cursor → Answer
-answered Good c = Stopped (record { word = c.word; state = c.state })
-answered (StoppedBy x) c = Refused x
+-- the word and the four counts, or the refusal; a run ends with a word, so that the one for a cursor that has none is never given (`Ends` in waiting/Runs)
+abbrev pub answered : Result ⊤ Refused → Cursor → Result Stop Refused
+answered (Ok u) c = Ok (record { word = unwrap_or c.word Word.Spent; state = c.state })
+answered (Err x) c = Err x
 
 abbrev pub set_out : Head → State → (budget : ℕ) → List Kept → List ℤ → Way ℤ
 set_out h s budget list st = way list st (opened (judged h s st list) (begun s budget (length list)))
 
 -- what a run answers, and where it ends: the list, the store and the cursor
 pub record Run : Type 0 where
-  pub answer : Answer
+  pub answer : Result Stop Refused
   pub end : Way ℤ
 
 abbrev pub run_of : Head → State → (budget : ℕ) → List Kept → List ℤ → Run

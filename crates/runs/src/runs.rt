@@ -1,62 +1,43 @@
-// A run as the caller sees it: the covered core makes each step on plain numbers and says which record goes where; here the record is stored.
+// A run as the caller sees it: each step says which record goes where, and here the record is stored.
 ghost use Rattle.std.specs.Prelude.{◌≡◌};
-ghost use Rattle.waiting.specs.Steps.{begun};
-ghost use Rattle.runs.specs.Runs.{opened, answered, run_of};
+ghost use Rattle.runs.specs.Runs.{run_of};
 
-use crate::list::put;
+use crate::list::{ListItem, put_kept};
 use boxes::visit::Word;
-use system::head::{Checked, Head};
+use system::head::Head;
 use system::refusal::Refused;
-use waiting::cursor::{Cursor, Kept, begin, halt};
+use waiting::cursor::Cursor;
 use waiting::state::{State, check};
 use waiting::step::step;
 
-#[derive(Clone, Copy)]
+#[derive(Clone, Copy, PartialEq, Eq)]
 pub struct Stop {
     pub word: Word,
     pub state: State,
 }
 
-#[derive(Clone, Copy)]
-pub enum Answer {
-    Stopped(Stop),
-    Refused(Refused),
-}
-
-// Where a run begins. It makes no step where the state is refused.
-pub fn open(v: Checked, s: State, budget: u32, room: usize) -> Cursor
-    ensures { result ≡ opened v (begun s budget room) }
+pub fn run<E: ListItem>(
+    store: &mut [i64],
+    list: &mut [E],
+    h: Head,
+    s: State,
+    budget: u32,
+) -> Result<Stop, Refused>
+    ensures { (result ≡ (run_of h s budget (E.records list.old) store.old).answer)
+        × ((list.new ≡ E.with_records list.old (run_of h s budget (E.records list.old) store.old).end.list)
+        × (store.new ≡ (run_of h s budget (E.records list.old) store.old).end.store)) }
 {
-    let c = begin(s, budget, room);
-    match v {
-        Checked::Good => c,
-        Checked::Refused(_) => halt(c, Word::Spent),
+    let room = E::room(list);
+    check(h, s, store, room)?;
+    let mut c = Cursor::new(s, budget, room);
+    loop {
+        if let Some(word) = c.word {
+            return Ok(Stop {
+                word,
+                state: c.state,
+            });
+        }
+        c = step(store, h, c);
+        put_kept(list, c.put);
     }
-}
-
-// What a run answers.
-pub fn close(v: Checked, c: Cursor) -> Answer
-    ensures { result ≡ answered v c }
-{
-    let word = c.word;
-    let state = c.state;
-    match v {
-        Checked::Good => Answer::Stopped(Stop { word, state }),
-        Checked::Refused(x) => Answer::Refused(x),
-    }
-}
-
-pub fn run(store: &mut [i64], list: &mut [Kept], h: Head, s: State, budget: u32) -> Answer
-    ensures { (result ≡ (run_of h s budget list.old store.old).answer)
-        × ((list.new ≡ (run_of h s budget list.old store.old).end.list)
-        × (store.new ≡ (run_of h s budget list.old store.old).end.store)) }
-{
-    let room = list.len();
-    let v = check(h, s, &*store, room);
-    let mut c = open(v, s, budget, room);
-    while c.go {
-        c = step(&mut *store, h, c);
-        put(&mut *list, c.at, c.kept);
-    }
-    close(v, c)
 }

@@ -1,77 +1,48 @@
-// One visit as the caller sees it: the covered core makes it and says which record goes where; here the record is stored.
+// One visit as the caller sees it: the step says which record goes where, and here the record is stored.
 ghost use Rattle.std.specs.Prelude.{◌≡◌};
-ghost use Rattle.runs.specs.Visits.{unseen, told, visit_of};
+ghost use Rattle.runs.specs.Visits.{visit_of};
 
-use crate::list::put;
-use crate::runs::open;
-use boxes::half::Box;
-use boxes::visit::{Outcome, Visit, Word};
-use system::head::{Checked, Head};
+use crate::list::{ListItem, put_kept};
+use boxes::visit::{Visit, Word};
+use system::head::Head;
 use system::refusal::Refused;
-use waiting::cursor::{Cursor, Kept};
+use waiting::cursor::Cursor;
 use waiting::state::{State, check};
-use waiting::step::{Made, step_seen};
+use waiting::step::step_seen;
 
 // The state after the visit, and what was visited.
-#[derive(Clone, Copy)]
+#[derive(Clone, Copy, PartialEq, Eq)]
 pub struct Seen {
     pub state: State,
     pub visit: Visit,
 }
 
-#[derive(Clone, Copy)]
+// No Result, as neither case is an error.
+#[derive(Clone, Copy, PartialEq, Eq)]
 pub enum Answer {
     Saw(Seen),
     Stopped(Word),
-    Refused(Refused),
 }
 
-// No visit yet.
-pub fn unmade(c: Cursor) -> Made
-    ensures { result ≡ unseen c }
+pub fn visit<E: ListItem>(
+    store: &mut [i64],
+    list: &mut [E],
+    h: Head,
+    s: State,
+) -> Result<Answer, Refused>
+    ensures { (result ≡ (visit_of h s (E.records list.old) store.old).answer)
+        × ((list.new ≡ E.with_records list.old (visit_of h s (E.records list.old) store.old).end.list)
+        × (store.new ≡ (visit_of h s (E.records list.old) store.old).end.store)) }
 {
-    let none = Visit {
-        at: Box::unit(),
-        what: Outcome::Kept(0),
-    };
-    Made {
-        cursor: c,
-        visit: none,
-    }
-}
-
-// What a visit answers.
-pub fn tell(v: Checked, m: Made) -> Answer
-    ensures { result ≡ told v m }
-{
-    let c = m.cursor;
-    let visit = m.visit;
-    let state = c.state;
-    let word = c.word;
-    match v {
-        Checked::Good => {
-            if c.go {
-                return Answer::Saw(Seen { state, visit });
-            }
-            Answer::Stopped(word)
-        }
-        Checked::Refused(x) => Answer::Refused(x),
-    }
-}
-
-pub fn visit(store: &mut [i64], list: &mut [Kept], h: Head, s: State) -> Answer
-    ensures { (result ≡ (visit_of h s list.old store.old).answer)
-        × ((list.new ≡ (visit_of h s list.old store.old).end.list)
-        × (store.new ≡ (visit_of h s list.old store.old).end.store)) }
-{
-    let room = list.len();
-    let v = check(h, s, &*store, room);
-    let c = open(v, s, 1, room);
-    let mut m = unmade(c);
-    if c.go {
-        m = step_seen(&mut *store, h, c);
-        let d = m.cursor;
-        put(&mut *list, d.at, d.kept);
-    }
-    tell(v, m)
+    let room = E::room(list);
+    check(h, s, store, room)?;
+    let made = step_seen(store, h, Cursor::new(s, 1, room));
+    put_kept(list, made.cursor.put);
+    Ok(match made.visit {
+        Ok(visit) => Answer::Saw(Seen {
+            state: made.cursor.state,
+            visit,
+        }),
+        Err(word) => Answer::Stopped(word),
+    })
 }

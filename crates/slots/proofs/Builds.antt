@@ -26,7 +26,7 @@ build_at (suc n) f zero h = refl
 build_at (suc n) f (suc i) h = build_at n (λ j. f (suc j)) i (omega arith)
 
 -- ---- place y of row x, in rows of s places
-row_lt : (x m s y : ℕ) → x < m → y < s → x * s + y < m * s
+pub row_lt : (x m s y : ℕ) → x < m → y < s → x * s + y < m * s
 row_lt x m s y h k = let a : suc x * s ≤ m * s = NatL.mul-le-mul_right s h in omega arith
 
 row_of : (s x y : ℕ) → y < s → (x * s + y) / s ≡ x

@@ -1,5 +1,6 @@
 -- What the sign test says: a polynomial that decides has all its numbers of that strict sign. Assumes nothing.
-use mathlib.Core.Path.{◌≡◌, refl, sym, ◌∙◌, subst}
+use Rattle.std.specs.Prelude.{Option, Some, None}
+use mathlib.Core.Path.{ap, ◌≡◌, refl, sym, ◌∙◌, subst}
 use mathlib.Core.Bool.{Bool, true, false, cond, ◌&&◌}
 use mathlib.Core.List.{List, [], ◌∷◌}
 use mathlib.Core.Logic.{◌⊎◌, inl, inr}
@@ -16,12 +17,10 @@ use Rattle.bernstein.specs.Points
 use Rattle.bernstein.specs.Frames.{Lawful}
 use Rattle.system.specs.declared.head.Head.{Head}
 use Rattle.boxes.specs.declared.half.Direction.{Direction}
-use Rattle.boxes.specs.declared.visit.Sign.{Sign}
-use Rattle.boxes.specs.declared.visit.Sign.TheVariants.{Above, Below}
+use Rattle.whole.specs.declared.Sign.{Sign}
+use Rattle.whole.specs.declared.Sign.TheVariants.{Above, Below}
 use Rattle.boxes.specs.declared.visit.Outcome.{Outcome}
 use Rattle.system.specs.Heads.{frame, places}
-use Rattle.slots.specs.declared.Decision.{Decision}
-use Rattle.slots.specs.declared.Choice.{Choice}
 use Rattle.slots.specs.Slots.{at, polynomial, numbers}
 use Rattle.slots.specs.Rules.{every, has, signed, decided, by_choice, chosen, able, looked_by, looked}
 
@@ -43,23 +42,36 @@ pub record Decides (count size : ℕ) (xs : List ℤ) (p q : ℕ) (s : Sign) : T
   pub number : q ≡ p + which
   pub signs : every (has s) (take size (drop (which * size) xs)) ≡ true
 
-same_by : {p q : ℕ} {r s : Sign} → Decision.By p r ≡ Decision.By q s → (p ≡ q) × (r ≡ s)
-same_by e = (cc, cc)
+-- polynomial p, with its sign
+abbrev pub by : ℕ → Sign → Option (ℕ × Sign)
+by p s = Some (p, s)
 
-signed_by : (p : ℕ) (xs : List ℤ) (else : Decision) (q : ℕ) (s : Sign) → signed p xs else ≡ Decision.By q s
-    → ((q ≡ p) × (every (has s) xs ≡ true)) ⊎ (else ≡ Decision.By q s)
+number_in : Option (ℕ × Sign) → ℕ
+number_in None = 0
+number_in (Some x) = x.0
+
+sign_in : Option (ℕ × Sign) → Sign
+sign_in None = Above
+sign_in (Some x) = x.1
+
+same_by : {p q : ℕ} {r s : Sign} → by p r ≡ by q s → (p ≡ q) × (r ≡ s)
+unfolding number_in sign_in
+same_by e = (ap number_in e, ap sign_in e)
+
+signed_by : (p : ℕ) (xs : List ℤ) (else : Option (ℕ × Sign)) (q : ℕ) (s : Sign) → signed p xs else ≡ by q s
+    → ((q ≡ p) × (every (has s) xs ≡ true)) ⊎ (else ≡ by q s)
 signed_by p xs else q s e = from (every (has Above) xs) (every (has Below) xs) refl refl e
   where
-    one : (r : Sign) → every (has r) xs ≡ true → Decision.By p r ≡ Decision.By q s → ((q ≡ p) × (every (has s) xs ≡ true)) ⊎ (else ≡ Decision.By q s)
+    one : (r : Sign) → every (has r) xs ≡ true → by p r ≡ by q s → ((q ≡ p) × (every (has s) xs ≡ true)) ⊎ (else ≡ by q s)
     one r f g = let b = same_by g in inl (sym b.0, subst (λ (x : Sign). every (has x) xs ≡ true) b.1 f)
 
-    from : (a b : Bool) → every (has Above) xs ≡ a → every (has Below) xs ≡ b → cond a (Decision.By p Above) (cond b (Decision.By p Below) else) ≡ Decision.By q s
-        → ((q ≡ p) × (every (has s) xs ≡ true)) ⊎ (else ≡ Decision.By q s)
+    from : (a b : Bool) → every (has Above) xs ≡ a → every (has Below) xs ≡ b → cond a (by p Above) (cond b (by p Below) else) ≡ by q s
+        → ((q ≡ p) × (every (has s) xs ≡ true)) ⊎ (else ≡ by q s)
     from true b f g e = one Above f e
     from false true f g e = one Below g e
     from false false f g e = inr e
 
-pub decided_by : (count size p : ℕ) (xs : List ℤ) (q : ℕ) (s : Sign) → decided count size p xs ≡ Decision.By q s → Decides count size xs p q s
+pub decided_by : (count size p : ℕ) (xs : List ℤ) (q : ℕ) (s : Sign) → decided count size p xs ≡ by q s → Decides count size xs p q s
 unfolding decided
 decided_by zero size p xs q s e = let z : ◌≡◌ {A = ℕ} 0 1 = cc in absurd (omega arith)
 decided_by (suc count) size p xs q s e = from (λ f. decided_by count size (suc p) (drop size xs) q s f) (signed_by p (take size xs) (decided count size (suc p) (drop size xs)) q s e)
@@ -70,8 +82,8 @@ decided_by (suc count) size p xs q s e = from (λ f. decided_by count size (suc 
     more : (w : ℕ) → size + w * size ≡ suc w * size
     more w = omega arith
 
-    from : (decided count size (suc p) (drop size xs) ≡ Decision.By q s → Decides count size (drop size xs) (suc p) q s)
-        → ((q ≡ p) × (every (has s) (take size xs) ≡ true)) ⊎ (decided count size (suc p) (drop size xs) ≡ Decision.By q s) → Decides (suc count) size xs p q s
+    from : (decided count size (suc p) (drop size xs) ≡ by q s → Decides count size (drop size xs) (suc p) q s)
+        → ((q ≡ p) × (every (has s) (take size xs) ≡ true)) ⊎ (decided count size (suc p) (drop size xs) ≡ by q s) → Decides (suc count) size xs p q s
     from ih (inl f) = record { which = 0; below = omega arith; number = omega (arith, f.0); signs = rw none f.1 }
     from ih (inr f) =
         let d = ih f in
@@ -111,17 +123,17 @@ pub record DroppedBy (h : Head) (l : List ℤ) (q : ℕ) (s : Sign) : Type 0 whe
   pub number : q ≡ 1 + which
   pub signs : (j : Index) → (frame h).Inside j → Has (sign s) (polynomial h (numbers l) which j)
 
-pub by_drop : (h : Head) (l : List ℤ) (able : Direction → Bool) (d : Decision) (q : ℕ) (s : Sign) → looked_by h l d able ≡ Outcome.Dropped q s → d ≡ Decision.By q s
-by_drop h l able (Decision.By p r) q s e = cc
-by_drop h l able Decision.Open q s e = absurd (by_choice_not (chosen h l) e)
+pub by_drop : (h : Head) (l : List ℤ) (able : Direction → Bool) (d : Option (ℕ × Sign)) (q : ℕ) (s : Sign) → looked_by h l d able ≡ Outcome.Dropped q s → d ≡ by q s
+by_drop h l able (Some (p, r)) q s e = cc
+by_drop h l able None q s e = absurd (by_choice_not (chosen h l) e)
   where
     kept_or_cut : (b : Bool) (r : Direction) → cond b (Outcome.Cut r) (Outcome.Kept 2) ≡ Outcome.Dropped q s → ⊥
     kept_or_cut true r e = let z : ◌≡◌ {A = ℕ} 0 1 = cc in omega arith
     kept_or_cut false r e = let z : ◌≡◌ {A = ℕ} 0 1 = cc in omega arith
 
-    by_choice_not : (c : Choice) → by_choice able c ≡ Outcome.Dropped q s → ⊥
-    by_choice_not Choice.Nowhere e = let z : ◌≡◌ {A = ℕ} 0 1 = cc in omega arith
-    by_choice_not (Choice.Along r) e = kept_or_cut (able r) r e
+    by_choice_not : (c : Option Direction) → by_choice able c ≡ Outcome.Dropped q s → ⊥
+    by_choice_not None e = let z : ◌≡◌ {A = ℕ} 0 1 = cc in omega arith
+    by_choice_not (Some r) e = kept_or_cut (able r) r e
 
 pub dropped_by : (h : Head) → Lawful (frame h) → (l : List ℤ) (q : ℕ) (s : Sign) → places h ≤ length (numbers l) → looked h l ≡ Outcome.Dropped q s → DroppedBy h l q s
 unfolding looked

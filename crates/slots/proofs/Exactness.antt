@@ -1,5 +1,4 @@
 -- The slot of a start holds exact numbers, and the halves of a slot of exact numbers hold exact numbers: the frame's laws, slot by slot. Assumes nothing.
-use mathlib.Core.Path.{◌≡◌, refl}
 use mathlib.Core.List.{List}
 use Prim.Native.Nat.{ℕ}
 use lib.IntN.{ℤ}
@@ -27,8 +26,3 @@ module _ (h : Head) (L : Lawful (frame h)) where
         exact_slot = λ t m. L.exact_same (half_box e r (box_in l)) (a t) (p t) _ (L.cut_exact (box_in l) (a t) _ (x.exact_slot t m) e r)
             (in_turn_filled h L p t m);
       }
-
--- the box of a half is the half of the box
-pub half_box_in : (h : Head) (e : Half) (r : Direction) (l : List ℤ) → box_in (half_slot h e r l) ≡ half_box e r (box_in l)
-unfolding half_slot
-half_box_in h e r l = refl

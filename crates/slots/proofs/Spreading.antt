@@ -73,8 +73,8 @@ module _ (h : Head) (cs : List ℤ) where
       ).cuttable (index (degrees h) (x % size (degrees h))) (where_upto h x b))
 
   pub stage_ready : Limits h → places h ≤ length cs → every (within 1000000000) (take (places h) cs) ≡ true → (r : Direction) (s : List ℤ) → s ≡ box_numbers unit ++ staged r
-      → Limits h × (length s ≡ width h) × ((x : ℕ) → x < places h → Below (2 ^ (62 - degrees h ! r)) (at s (6 + x)))
-  stage_ready k l e r s g = (k, ap length g ∙ length-append (box_numbers unit) (staged r) ∙ ap (λ (x : ℕ). 6 + x) (in_turn_length h _), stage_small k l e r s g)
+      → (length s ≡ width h) × ((x : ℕ) → x < places h → Below (2 ^ (62 - degrees h ! r)) (at s (6 + x)))
+  stage_ready k l e r s g = (ap length g ∙ length-append (box_numbers unit) (staged r) ∙ ap (λ (x : ℕ). 6 + x) (in_turn_length h _), stage_small k l e r s g)
 
   -- after the box and the weighing
   pub weighed : {old new : List ℤ} {b : Box} → b ≡ from_box unit → {rest : List ℤ} → old ≡ box_numbers (as_box b) ++ rest → new ≡ take 6 old ++ staged third → new ≡ box_numbers unit ++ staged third

@@ -1,23 +1,21 @@
 -- Tests of all numbers of a list or of a part of it, as the rules say them: `every` is true where each number is so; what the side of a part says of the rule of
--- signs. And zeros written one by one. Assumes nothing.
+-- signs. Assumes nothing.
+use Rattle.std.specs.Prelude.{Option, Some, None}
 use mathlib.Core.Path.{◌≡◌, refl, sym, ◌∙◌, ap, ap₂, subst}
 use mathlib.Core.Bool.{Bool, true, false, cond}
 use mathlib.Core.Logic.{◌↔◌}
-use mathlib.Core.List.{List, [], ◌∷◌, ◌++◌, append_assoc, append-nil}
+use mathlib.Core.List.{List, [], ◌∷◌}
 use Prim.Native.Nat.{ℕ, suc, ◌+◌, ◌-◌, ◌≤◌, ◌<◌}
 use native.Mathlib.Omega.{arith}
-use native.Mathlib.Numerals.{add-one}
 use borrow.Author.Tests.{leb-true, le-leb}
 use lib.IntN.{ℤ, pos, nat_abs}
-use lib.ListN.{length, set, take, drop, replicate, length-take, length-drop, length-replicate, replicate-append-replicate}
-use lib.Seq.{get_or-take, get_or-drop, drop-cons, set_at, drop-length, take_all}
+use lib.ListN.{length, take, drop, length-take, length-drop}
+use lib.Seq.{get_or-take, get_or-drop, take_all}
 use Rattle.bernstein.specs.Points.{Has}
-use Rattle.boxes.specs.declared.visit.Sign.{Sign}
-use Rattle.boxes.specs.declared.visit.Sign.TheVariants.{Above, Below}
+use Rattle.whole.specs.declared.Sign.{Sign}
+use Rattle.whole.specs.declared.Sign.TheVariants.{Above, Below}
 use Rattle.lines.specs.Sides.{Each, AtMost, side, SideIs}
-use Rattle.lines.specs.declared.sides.Side.{Side}
 use Rattle.lines.proofs.Parts.{iff-<}
-use Rattle.slots.specs.declared.Decision.{Decision}
 use Rattle.slots.specs.Slots.{at}
 use Rattle.slots.specs.Rules.{every, has, within, signed}
 use Rattle.slots.proofs.Decided.{every_at, sign}
@@ -62,44 +60,40 @@ has_says : (s : Sign) (z : ℤ) → (has s z ≡ true) ↔ Has (sign s) z
 has_says Above z = iff-< (pos 0) z
 has_says Below z = iff-< z (pos 0)
 
--- an answer of `all_within` is the rules' test, of a part and of a whole list
-pub within_part : {b : ℕ} {r : Bool} (l : List ℤ) (start k : ℕ) {stop : ℕ} → stop ≡ start + k → stop ≤ length l → (r ≡ true) ↔ Each (AtMost b) l start stop
-    → r ≡ every (within b) (take k (drop start l))
-within_part {b} {r} l start k e fits a = same_answer r (every (within b) (take k (drop start l))) a (part_says (within_says b) l start k e fits)
-
+-- an answer of `all_within` is the rules' test of the list from start on
 pub within_rest : {b : ℕ} {r : Bool} (l : List ℤ) (start : ℕ) → start ≤ length l → (r ≡ true) ↔ Each (AtMost b) l start (length l) → r ≡ every (within b) (drop start l)
 within_rest {b} {r} l start h a =
-    within_part l start (length l - start) (omega arith) (omega arith) a ∙ ap (every (within b)) (take_all (length l - start) (drop start l) (simp length-drop (omega arith)))
+    same_answer r (every (within b) (take (length l - start) (drop start l))) a (part_says (within_says b) l start (length l - start) (omega arith) (omega arith))
+    ∙ ap (every (within b)) (take_all (length l - start) (drop start l) (simp length-drop (omega arith)))
 
 -- ---- the rule of signs, by the side of the polynomial's part
-abbrev pub by_side : Side → ℕ → Decision → Decision
-by_side Side.Above p else = Decision.By p Above
-by_side Side.Below p else = Decision.By p Below
-by_side Side.Mixed p else = else
+abbrev pub by_side : Option Sign → ℕ → Option (ℕ × Sign) → Option (ℕ × Sign)
+by_side (Some s) p else = Some (p, s)
+by_side None p else = else
 
-tells : Side → Sign → Bool
-tells Side.Above Above = true
-tells Side.Above Below = false
-tells Side.Below Above = false
-tells Side.Below Below = true
-tells Side.Mixed s = false
+tells : Option Sign → Sign → Bool
+tells (Some Above) Above = true
+tells (Some Above) Below = false
+tells (Some Below) Above = false
+tells (Some Below) Below = true
+tells None s = false
 
 no_other : {A : Type 0} → ◌≡◌ {A = ℕ} 0 1 → A
 no_other z = absurd (omega arith)
 
-tells_side : (r : Side) (s : Sign) → (tells r s ≡ true) ↔ (r ≡ side (sign s))
+tells_side : (r : Option Sign) (s : Sign) → (tells r s ≡ true) ↔ (r ≡ Some (side (sign s)))
 unfolding tells
-tells_side Side.Above Above = (λ e. refl, λ e. refl)
-tells_side Side.Above Below = (λ e. no_other (cc), λ e. no_other (cc))
-tells_side Side.Below Above = (λ e. no_other (cc), λ e. no_other (cc))
-tells_side Side.Below Below = (λ e. refl, λ e. refl)
-tells_side Side.Mixed Above = (λ e. no_other (cc), λ e. no_other (cc))
-tells_side Side.Mixed Below = (λ e. no_other (cc), λ e. no_other (cc))
+tells_side (Some Above) Above = (λ e. refl, λ e. refl)
+tells_side (Some Above) Below = (λ e. no_other (cc), λ e. no_other (cc))
+tells_side (Some Below) Above = (λ e. no_other (cc), λ e. no_other (cc))
+tells_side (Some Below) Below = (λ e. refl, λ e. refl)
+tells_side None Above = (λ e. no_other (cc), λ e. no_other (cc))
+tells_side None Below = (λ e. no_other (cc), λ e. no_other (cc))
 
-pub signed_side : (l : List ℤ) (start size : ℕ) {stop : ℕ} {r : Side} → stop ≡ start + size → stop ≤ length l → SideIs l start stop r → (p : ℕ) (else : Decision)
+pub signed_side : (l : List ℤ) (start size : ℕ) {stop : ℕ} {r : Option Sign} → stop ≡ start + size → stop ≤ length l → SideIs l start stop r → (p : ℕ) (else : Option (ℕ × Sign))
     → signed p (take size (drop start l)) else ≡ by_side r p else
 unfolding tells
-signed_side l start size {stop} {r} e fits i p else = ap₂ (λ (a b : Bool). cond a (Decision.By p Above) (cond b (Decision.By p Below) else)) (told Above) (told Below) ∙ chosen r
+signed_side l start size {stop} {r} e fits i p else = ap₂ (λ (a b : Bool). cond a (Some (p, Above)) (cond b (Some (p, Below)) else)) (told Above) (told Below) ∙ chosen r
   where
     told : (s : Sign) → every (has s) (take size (drop start l)) ≡ tells r s
     told s = same_answer (every (has s) (take size (drop start l))) (tells r s) (part_says (has_says s) l start size e fits) (joined (tells_side r s) (i.is (sign s)))
@@ -107,20 +101,7 @@ signed_side l start size {stop} {r} e fits i p else = ap₂ (λ (a b : Bool). co
         joined : {A B C : Type 0} → A ↔ B → B ↔ C → A ↔ C
         joined f g = (λ a. g.0 (f.0 a), λ c. f.1 (g.1 c))
 
-    chosen : (r : Side) → cond (tells r Above) (Decision.By p Above) (cond (tells r Below) (Decision.By p Below) else) ≡ by_side r p else
-    chosen Side.Above = refl
-    chosen Side.Below = refl
-    chosen Side.Mixed = refl
-
--- ---- zeros: i of them, and then the list as it was
-abbrev pub cleared : List ℤ → ℕ → List ℤ
-cleared s i = replicate i (pos 0) ++ drop i s
-
-pub cleared_on : (s : List ℤ) (i : ℕ) → i < length s → set (cleared s i) i (pos 0) ≡ cleared s (i + 1)
-cleared_on s i h =
-    ap (λ (t : List ℤ). set (replicate i (pos 0) ++ t) i (pos 0)) (drop-cons s i (pos 0) h)
-    ∙ set_at (replicate i (pos 0)) (at s i) (drop (suc i) s) (pos 0) i (length-replicate i (pos 0))
-    ∙ sym (rw (← replicate-append-replicate i 1 (pos 0), append_assoc, add-one i) refl)
-
-pub cleared_end : (s : List ℤ) (i : ℕ) → i ≤ length s → length s ≤ i → cleared s i ≡ replicate (length s) (pos 0)
-cleared_end s i h k = let e : i ≡ length s = omega arith in rw (e, drop-length s) (append-nil (replicate (length s) (pos 0)))
+    chosen : (r : Option Sign) → cond (tells r Above) (Some (p, Above)) (cond (tells r Below) (Some (p, Below)) else) ≡ by_side r p else
+    chosen (Some Above) = refl
+    chosen (Some Below) = refl
+    chosen None = refl

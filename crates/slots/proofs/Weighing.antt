@@ -1,7 +1,7 @@
 -- The first stage of a start: the table of weights by one computed test, the numbers of a slot written anew, and the coefficients times their weights. Assumes nothing.
-use mathlib.Core.Path.{◌≡◌, refl, sym, ◌∙◌, ap, ap₂}
+use mathlib.Core.Path.{◌≡◌, sym, ◌∙◌, ap, ap₂}
 use mathlib.Core.List.{List, [], ◌∷◌, ◌++◌}
-use Prim.Native.Nat.{ℕ, suc, ◌+◌, ◌*◌, ◌-◌, ◌/◌, ◌%◌, ◌^◌, ◌≤◌, ◌<◌}
+use Prim.Native.Nat.{ℕ, suc, ◌+◌, ◌*◌, ◌-◌, ◌%◌, ◌^◌, ◌≤◌, ◌<◌}
 use native.Mathlib.Omega.{arith}
 use native.Mathlib.Nat as NatL
 use lib.Dec.{T, eqb, eqb→eq}
@@ -24,33 +24,29 @@ use Rattle.slots.specs.Inside.{Weights}
 use Rattle.slots.proofs.Builds.{build_at, in_turn_length}
 use Rattle.slots.proofs.Working.{place_in}
 
--- ---- the weights: entry i of row n
-abbrev table : List ℕ
-table = 1 ∷ 1 ∷ 1 ∷ 2 ∷ 1 ∷ 2 ∷ 3 ∷ 1 ∷ 1 ∷ 3 ∷ 12 ∷ 3 ∷ 2 ∷ 3 ∷ 12 ∷ 10 ∷ 2 ∷ 1 ∷ 1 ∷ 2 ∷ 10 ∷ 60 ∷ 10 ∷ 4 ∷ 3 ∷ 4 ∷ 10 ∷ 60 ∷ []
+-- ---- the weights
+abbrev table : List (List ℕ)
+table =
+    (1 ∷ 0 ∷ 0 ∷ 0 ∷ 0 ∷ 0 ∷ 0 ∷ []) ∷ (1 ∷ 1 ∷ 0 ∷ 0 ∷ 0 ∷ 0 ∷ 0 ∷ []) ∷ (2 ∷ 1 ∷ 2 ∷ 0 ∷ 0 ∷ 0 ∷ 0 ∷ []) ∷ (3 ∷ 1 ∷ 1 ∷ 3 ∷ 0 ∷ 0 ∷ 0 ∷ [])
+    ∷ (12 ∷ 3 ∷ 2 ∷ 3 ∷ 12 ∷ 0 ∷ 0 ∷ []) ∷ (10 ∷ 2 ∷ 1 ∷ 1 ∷ 2 ∷ 10 ∷ 0 ∷ []) ∷ (60 ∷ 10 ∷ 4 ∷ 3 ∷ 4 ∷ 10 ∷ 60 ∷ []) ∷ []
 
 abbrev entry : ℕ → ℕ → ℕ
-entry n i = get_or table (n * (n + 1) / 2 + i) 0
+entry n i = get_or (get_or table n []) i 0
 
 tested : T (all (λ n. all (λ i. eqb (entry n i) (weight n i)) (suc n)) 7)
 unfolding weight scale choose
 tested = tt
 
-table_is : (n i : ℕ) → n ≤ 6 → i ≤ n → get_or table (n * (n + 1) / 2 + i) 0 ≡ weight n i
+table_is : (n i : ℕ) → n ≤ 6 → i ≤ n → get_or (get_or table n []) i 0 ≡ weight n i
 table_is n i h k =
     eqb→eq (entry n i) (weight n i)
     (all_at (λ i. eqb (entry n i) (weight n i)) (suc n) i (all_at (λ n. all (λ i. eqb (entry n i) (weight n i)) (suc n)) 7 n tested (omega arith)) (omega arith))
 
 pub table_weighs : Weights table
-table_weighs = record { long = refl; weighs = table_is }
-
-pub row_high : (n : ℕ) → n ≤ 6 → n * (n + 1) ≤ 42
-row_high n h = let k : n + 1 ≤ 7 = omega arith in NatL.mul-le-mul h k
+table_weighs = record { weighs = table_is }
 
 pub weight_high : (n i : ℕ) → n ≤ 6 → i ≤ n → weight n i ≤ 60
 weight_high n i h k = omega (arith, rw (choose_self i) at (factor_le n i i h k (NatL.le_refl i)))
-
-pub three_high : {a b c : ℕ} → a ≤ 60 → b ≤ 60 → c ≤ 60 → a * b * c ≤ 216000
-three_high p q r = NatL.mul-le-mul (NatL.mul-le-mul p q) r
 
 pub times_below : (w : ℕ) (x : ℤ) → w ≤ 216000 → nat_abs x ≤ 1000000000 → Below (2 ^ 63) (pos w *ℤ x)
 times_below w x p q = record { below = rw (nat_abs-* (pos w) x) (omega (arith, NatL.mul-le-mul p q)) }
@@ -78,9 +74,6 @@ module _ (h : Head) (cs : List ℤ) where
     pub long : length new ≡ length old
     pub box : (i : ℕ) → i < 6 → at new i ≡ at old i
     pub made : (y : ℕ) → y < x → at new (6 + y) ≡ at (in_turn h heavy) y
-
-  pub weighing_start : (old : List ℤ) → Weighing old old 0
-  weighing_start old = record { inside = omega arith; long = refl; box = λ i b. refl; made = λ y b. absurd (NatL.not-suc-le-zero b) }
 
   -- the next number
   abbrev weight_in : ℕ → ℕ

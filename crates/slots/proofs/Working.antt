@@ -18,11 +18,7 @@ use Rattle.system.specs.Heads.{degrees, places, Limits}
 use Rattle.system.proofs.Heads.{size_low, places_low}
 use Rattle.lines.specs.Lines.{Line, along, InBlocks, Worked}
 use Rattle.slots.specs.Slots.{at, polynomial, in_turn}
-use Rattle.slots.proofs.Builds.{build_at}
-
--- ---- a number of a row
-pub row_lt : (x m s y : ℕ) → x < m → y < s → x * s + y < m * s
-row_lt x m s y h k = let a : suc x * s ≤ m * s = NatL.mul-le-mul_right s h in omega arith
+use Rattle.slots.proofs.Builds.{build_at, row_lt}
 
 -- the blocks of all polynomials are all their places
 pub all_blocks : (h : Head) (r : Direction) → h.m * blocks (degrees h) r * ((degrees h ! r + 1) * stride (degrees h) r) ≡ places h

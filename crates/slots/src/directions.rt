@@ -1,47 +1,36 @@
 // The lines of a direction among the numbers of a slot: their degree, how far apart their entries stand, and in how many blocks they lie.
-ghost use Rattle.std.specs.Prelude.{◌≡◌, ◌+◌, ◌*◌, ◌≤◌};
+ghost use Rattle.std.specs.Prelude.{◌≡◌, ◌*◌};
 ghost use Rattle.bernstein.specs.Three.{◌!◌};
-ghost use Rattle.bernstein.specs.Places.{stride, blocks};
+ghost use Rattle.bernstein.specs.Places as Places;
 ghost use Rattle.system.specs.Heads.{degrees};
 ghost use Rattle.boxes.specs.Boxes.{direction};
 
 use boxes::half::Direction;
-use system::head::Head;
+use system::head::{Head, past};
 
-pub fn degree_in(h: Head, r: Direction) -> usize
-    ensures { result ≡ degrees h ! direction r }
-{
-    match r {
-        Direction::First => h.n1 as usize,
-        Direction::Second => h.n2 as usize,
-        Direction::Third => h.n3 as usize,
-    }
+// The lines of all m polynomials.
+#[derive(Clone, Copy)]
+pub struct Lines {
+    pub degree: usize,
+    pub stride: usize,
+    pub blocks: usize,
 }
 
-fn past(n: u8) -> usize
-    ensures { (result ≡ n + 1) × (result ≤ 256) }
-{
-    (n as usize) + 1
-}
-
-pub fn stride_in(h: Head, r: Direction) -> usize
-    ensures { result ≡ stride (degrees h) (direction r) }
-{
-    match r {
-        Direction::First => past(h.n2) * past(h.n3),
-        Direction::Second => past(h.n3),
-        Direction::Third => 1,
-    }
-}
-
-// Of all m polynomials.
-pub fn blocks_in(h: Head, r: Direction) -> usize
-    ensures { result ≡ h.m * blocks (degrees h) (direction r) }
-{
-    let m = h.m as usize;
-    match r {
-        Direction::First => m,
-        Direction::Second => m * past(h.n1),
-        Direction::Third => m * (past(h.n1) * past(h.n2)),
+impl Lines {
+    pub fn along(r: Direction, h: Head) -> Self
+        ensures degree { result.degree ≡ degrees h ! direction r }
+        ensures stride { result.stride ≡ Places.stride (degrees h) (direction r) }
+        ensures blocks { result.blocks ≡ h.m * Places.blocks (degrees h) (direction r) }
+    {
+        let (stride, blocks) = match r {
+            Direction::First => (past(h.n2) * past(h.n3), 1),
+            Direction::Second => (past(h.n3), past(h.n1)),
+            Direction::Third => (1, past(h.n1) * past(h.n2)),
+        };
+        Lines {
+            degree: r.of(h.n1, h.n2, h.n3).into(),
+            stride,
+            blocks: usize::from(h.m) * blocks,
+        }
     }
 }

@@ -8,20 +8,3 @@ pub mod fronts;
 pub mod looks;
 pub mod numbers;
 pub mod starts;
-
-use boxes::half::Direction;
-use boxes::visit::Sign;
-
-// The lowest polynomial whose numbers have one strict sign, if one has.
-#[derive(Clone, Copy)]
-pub enum Decision {
-    By(u8, Sign),
-    Open,
-}
-
-// The direction to cut in, if one is below its depth.
-#[derive(Clone, Copy)]
-pub enum Choice {
-    Along(Direction),
-    Nowhere,
-}

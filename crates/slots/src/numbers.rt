@@ -6,11 +6,7 @@ ghost use Rattle.slots.specs.Rules.{every, within};
 pub fn clear(slot: &mut [i64])
     ensures { slot.new ≡ replicate (length slot.old) (pos 0) }
 {
-    let mut i = 0;
-    while i < slot.len() {
-        slot[i] = 0;
-        i += 1;
-    }
+    slot.fill(0);
 }
 
 // Whether the first n numbers are within 1,000,000,000 in size.
@@ -18,7 +14,7 @@ pub fn in_range(coefficients: &[i64], n: usize) -> bool
     requires { n ≤ length coefficients.now }
     ensures { result ≡ every (within 1000000000) (take n coefficients.now) }
 {
-    lines::sides::all_within(coefficients, 0, n, 1000000000)
+    all_within(&coefficients[..n], 1000000000)
 }
 
 // Whether every number is at most the bound in size.

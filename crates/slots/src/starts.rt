@@ -11,75 +11,103 @@ ghost use Rattle.slots.specs.Slots.{at, polynomial, numbers, in_turn, unit_slot}
 ghost use Rattle.slots.specs.Rules.{every, within};
 ghost use Rattle.slots.specs.Inside.{Weights};
 
-use crate::directions::{blocks_in, degree_in, stride_in};
+use crate::directions::Lines;
 use crate::fronts::put_box;
 use boxes::half::{Box, Direction};
 use system::head::Head;
 
-// Row after row, scale / C(n, i) for i from 0 to n. A start makes the table once, and lends it.
-const WEIGHTS: [usize; 28] = [
-    1, 1, 1, 2, 1, 2, 3, 1, 1, 3, 12, 3, 2, 3, 12, 10, 2, 1, 1, 2, 10, 60, 10, 4, 3, 4, 10, 60,
+// Entry i of row n is scale / C(n, i), for i from 0 to n.
+const WEIGHTS: [[u32; 7]; 7] = [
+    [1, 0, 0, 0, 0, 0, 0],
+    [1, 1, 0, 0, 0, 0, 0],
+    [2, 1, 2, 0, 0, 0, 0],
+    [3, 1, 1, 3, 0, 0, 0],
+    [12, 3, 2, 3, 12, 0, 0],
+    [10, 2, 1, 1, 2, 10, 0],
+    [60, 10, 4, 3, 4, 10, 60],
 ];
 
-fn weight_of(weights: &[usize], n: usize, i: usize) -> usize
-    requires { Weights weights.now × (n ≤ 6) × (i ≤ n) }
-    ensures { (result ≡ weight n i) × (result ≤ 60) }
-{
-    weights[n * (n + 1) / 2 + i]
+// The table of weights, which a start makes once.
+#[derive(Drop)]
+struct Table {
+    rows: [[u32; 7]; 7],
+    ghost weighs: { Weights rows },
 }
 
-// The weight of the number at place p of a polynomial.
-fn weight_at(weights: &[usize], h: Head, p: usize) -> usize
-    requires { Weights weights.now × Limits h × (p < size (degrees h)) }
-    ensures { (result ≡ weight h.n1 (index (degrees h) p).x₁ * weight h.n2 (index (degrees h) p).x₂ * weight h.n3 (index (degrees h) p).x₃) × (result ≤ 216000) }
-{
-    let n2 = h.n2 as usize;
-    let n3 = h.n3 as usize;
-    let row = p / (n3 + 1);
-    let a = weight_of(weights, h.n1 as usize, row / (n2 + 1));
-    let b = weight_of(weights, n2, row % (n2 + 1));
-    let c = weight_of(weights, n3, p % (n3 + 1));
-    a * b * c
+// A system that may start: a coefficient in range for each of its places; those beyond are not looked at. The slot stays an argument: a struct that
+// holds it as `&mut` would say in each `ensures` which reference it keeps.
+#[derive(Clone, Copy)]
+pub struct Startable<'a> {
+    pub head: Head,
+    pub coefficients: &'a [i64],
+    ghost limits: { Limits head },
+    ghost enough: { places head ≤ length coefficients.now },
+    ghost ranged: { every (within 1000000000) (take (places head) coefficients.now) ≡ true },
 }
 
-fn times(w: usize, x: i64) -> i64
+#[tactic(auto, using(crate::proofs::Weighing::times_below))]
+fn times(w: u32, x: i64) -> i64
     requires { (w ≤ 216000) × (nat_abs x ≤ 1000000000) }
     ensures { result ≡ pos w *ℤ x }
 {
-    whole::of(w as u64) * x
+    i64::from(w) * x
 }
 
-// The coefficients times their weights, after the box.
-fn weigh(slot: &mut [i64], coefficients: &[i64], weights: &[usize], h: Head)
-    requires { Weights weights.now × Limits h × (length slot.old ≡ width h) × (places h ≤ length coefficients.now) × (every (within 1000000000) (take (places h) coefficients.now) ≡ true) }
-    ensures { slot.new ≡ take 6 slot.old ++ in_turn h (λ t. weighted (degrees h) (polynomial h coefficients.now t)) }
-{
-    let size = h.size();
-    let places = h.places();
-    let mut x = 0;
-    while x < places {
-        slot[6 + x] = times(weight_at(weights, h, x % size), coefficients[x]);
-        x += 1;
+impl Table {
+    fn weight_of(&self, n: u8, i: usize) -> u32
+        requires { (n ≤ 6) × (i ≤ n) }
+        ensures { (result ≡ weight n i) × (result ≤ 60) }
+    {
+        self.rows[usize::from(n)][i]
     }
 }
 
-// All steps along all lines of direction r.
-fn spread(slot: &mut [i64], h: Head, r: Direction)
-    requires { Limits h × (length slot.old ≡ width h) × ((x : ℕ) → x < places h → Below (2 ^ (62 - degrees h ! direction r)) (at slot.old (6 + x))) }
-    ensures { slot.new ≡ take 6 slot.old ++ in_turn h (λ t. Numbers.spread (degrees h) (direction r) (polynomial h (numbers slot.old) t)) }
-{
-    lines::spread_blocks(slot, 6, blocks_in(h, r), stride_in(h, r), degree_in(h, r));
+impl Startable<'_> {
+    // The weight of the number at place p of a polynomial.
+    fn weight_at(&self, table: &Table, p: usize) -> u32
+        requires { p < size (degrees self.now.head) }
+        ensures { (result ≡ weight self.now.head.n1 (index (degrees self.now.head) p).x₁ * weight self.now.head.n2 (index (degrees self.now.head) p).x₂ * weight self.now.head.n3 (index (degrees self.now.head) p).x₃) × (result ≤ 216000) }
+    {
+        let h = self.head;
+        let entries2 = usize::from(h.n2) + 1;
+        let entries3 = usize::from(h.n3) + 1;
+        let row = p / entries3;
+        let a = table.weight_of(h.n1, row / entries2);
+        let b = table.weight_of(h.n2, row % entries2);
+        let c = table.weight_of(h.n3, p % entries3);
+        a * b * c
+    }
+
+    // The coefficients times their weights, after the box.
+    fn weigh(&self, table: &Table, slot: &mut [i64])
+        requires { length slot.old ≡ width self.now.head }
+        ensures { slot.new ≡ take 6 slot.old ++ in_turn self.now.head (λ t. weighted (degrees self.now.head) (polynomial self.now.head self.now.coefficients.now t)) }
+    {
+        let size = self.head.size();
+        for x in 0..self.head.places() {
+            slot[6 + x] = times(self.weight_at(table, x % size), self.coefficients[x]);
+        }
+    }
+
+    // All steps along all lines of direction r.
+    fn spread(&self, slot: &mut [i64], r: Direction)
+        requires { (length slot.old ≡ width self.now.head) × ((x : ℕ) → x < places self.now.head → Below (2 ^ (62 - degrees self.now.head ! direction r)) (at slot.old (6 + x))) }
+        ensures { slot.new ≡ take 6 slot.old ++ in_turn self.now.head (λ t. Numbers.spread (degrees self.now.head) (direction r) (polynomial self.now.head (numbers slot.old) t)) }
+    {
+        let along = Lines::along(r, self.head);
+        lines::spread_blocks(slot, 6, along.blocks, along.stride, along.degree);
+    }
 }
 
 // The slot of a start.
-pub fn start(slot: &mut [i64], coefficients: &[i64], h: Head)
-    requires { Limits h × (length slot.old ≡ width h) × (places h ≤ length coefficients.now) × (every (within 1000000000) (take (places h) coefficients.now) ≡ true) }
-    ensures { slot.new ≡ unit_slot h coefficients.now }
+pub fn start(slot: &mut [i64], system: &Startable)
+    requires { length slot.old ≡ width system.now.head }
+    ensures { slot.new ≡ unit_slot system.now.head system.now.coefficients.now }
 {
     put_box(slot, Box::unit());
-    let weights = WEIGHTS;
-    weigh(slot, coefficients, &weights, h);
-    spread(slot, h, Direction::Third);
-    spread(slot, h, Direction::Second);
-    spread(slot, h, Direction::First);
+    let table = Table { rows: WEIGHTS };
+    system.weigh(&table, slot);
+    system.spread(slot, Direction::Third);
+    system.spread(slot, Direction::Second);
+    system.spread(slot, Direction::First);
 }

@@ -6,16 +6,17 @@ mod moving;
 #[cfg(test)]
 mod tests;
 
-use runs::runs::Answer;
+use moving::Short;
+use runs::runs::Stop;
 use std::io;
+use system::refusal::Refused;
 
-fn print(rt: &HostRuntime, a: Answer, list: &[u16; 7168]) -> io::Result<()> {
+fn print(rt: &HostRuntime, a: Result<Stop, Refused>, list: &[u16; 7168]) -> io::Result<()> {
     let mut text = [0u8; 43101];
     let n = desk::tell(a, list, &mut text);
-    match moving::write(&mut rt.stdout(), &text[..n]) {
-        Ok(()) => Ok(()),
-        Err(why) => eprintln!(rt; "solve: not all of the answer could be written: {why}"),
-    }
+    moving::write(&mut rt.stdout(), &text[..n]).or_else(|why| eprintln!(rt;
+        "solve: not all of the answer could be written: {why}"
+    ))
 }
 
 fn solve(rt: &HostRuntime, file: &[u8]) -> io::Result<()> {
@@ -26,9 +27,8 @@ fn solve(rt: &HostRuntime, file: &[u8]) -> io::Result<()> {
 
 fn main(rt: HostRuntime) -> io::Result<()> {
     let mut file = [0u8; 4096];
-    let read = moving::read(&mut rt.stdin(), &mut file);
-    match read.whole {
-        Ok(()) => solve(&rt, &file[..read.count]),
-        Err(why) => eprintln!(rt; "solve: not all of the input could be read: {why}"),
+    match moving::read(&mut rt.stdin(), &mut file) {
+        Ok(count) => solve(&rt, &file[..count]),
+        Err(Short { why, .. }) => eprintln!(rt; "solve: not all of the input could be read: {why}"),
     }
 }

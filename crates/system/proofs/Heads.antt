@@ -8,7 +8,8 @@ use Rattle.bernstein.specs.Places.{size}
 use Rattle.bernstein.specs.Frames.{Lawful}
 use Rattle.bernstein.proofs.Frames.{boxes_lawful}
 use Rattle.system.specs.declared.head.Head.{Head}
-use Rattle.system.specs.declared.head.Checked.{Checked}
+use Rattle.std.specs.Prelude.{Result, Ok, Err, ⊤}
+use Rattle.system.specs.declared.refusal.Refused.{Refused}
 use Rattle.system.specs.declared.refusal.Refusal.{Refusal}
 use Rattle.system.specs.Refusals.{at_start}
 use Rattle.system.specs.Claims.{HeadLimits}
@@ -53,21 +54,24 @@ pub head_limits : HeadLimits
 head_limits h = ((head_says h).fact, (head_says h).passes)
 
 -- ---- the answer of `check`
-abbrev pub Answers : Head → Checked → Type 0
-Answers h Checked.Good = Limits h
-Answers h (Checked.Refused w) = (w ≡ at_start Refusal.OutOfLimits) × (Limits h → ⊥)
+abbrev pub Answers : Head → Result ⊤ Refused → Type 0
+Answers h (Ok u) = Limits h
+Answers h (Err w) = (w ≡ at_start Refusal.OutOfLimits) × (Limits h → ⊥)
 
-checked_cases : (h : Head) (t : Bool) → head_ok h ≡ t → (w : Checked) → cond t Checked.Good (Checked.Refused (at_start Refusal.OutOfLimits)) ≡ w → Answers h w
-checked_cases h true e Checked.Good p = (head_says h).fact e
-checked_cases h true e (Checked.Refused w) p = let z : ◌≡◌ {A = ℕ} 0 1 = cc in absurd (omega arith)
-checked_cases h false e Checked.Good p = let z : ◌≡◌ {A = ℕ} 0 1 = cc in absurd (omega arith)
-checked_cases h false e (Checked.Refused w) p = (cc, λ k. let b : ◌≡◌ {A = Bool} true false = sym ((head_says h).passes k) ∙ e in let z : ◌≡◌ {A = ℕ} 0 1 = cc in omega arith)
+checked_cases : (h : Head) (t : Bool) → head_ok h ≡ t → (w : Result ⊤ Refused) → cond t (Ok tt) (Err (at_start Refusal.OutOfLimits)) ≡ w → Answers h w
+checked_cases h true e (Ok u) p = (head_says h).fact e
+checked_cases h true e (Err w) p = let z : ◌≡◌ {A = ℕ} 0 1 = cc in absurd (omega arith)
+checked_cases h false e (Ok u) p = let z : ◌≡◌ {A = ℕ} 0 1 = cc in absurd (omega arith)
+checked_cases h false e (Err w) p = (cc, λ k. let b : ◌≡◌ {A = Bool} true false = sym ((head_says h).passes k) ∙ e in let z : ◌≡◌ {A = ℕ} 0 1 = cc in omega arith)
 
 -- what an answer tells
-pub checked_tells : (h : Head) (w : Checked) → checked h ≡ w → Answers h w
+pub checked_tells : (h : Head) (w : Result ⊤ Refused) → checked h ≡ w → Answers h w
 checked_tells h w p = checked_cases h (head_ok h) refl w p
 
-pub limits_good : (h : Head) → Limits h → checked h ≡ Checked.Good
+pub checked_limits : (h : Head) → head_ok h ≡ true → Limits h
+checked_limits h = (head_says h).fact
+
+pub limits_good : (h : Head) → Limits h → checked h ≡ (Ok tt)
 limits_good h k = rw ((head_says h).passes k)
 
 -- ---- sizes, for every head

@@ -1,3 +1,4 @@
 pub mod Says
 pub mod Sizes
 pub mod Heads
+pub mod Results

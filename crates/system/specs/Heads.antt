@@ -1,6 +1,6 @@
 -- The head of a system (01, "The system"): degrees, depths, S, D, places, the width of a slot, the scale, and the limits: once as the chain of tests that
 -- `check` makes, once as a record of facts. Definitions only; that the two agree is `HeadLimits` in Claims.
-use Rattle.std.specs.Prelude.{ℕ, ◌+◌, ◌*◌, ◌≤◌, ◌<◌, ◌≡◌, Bool, cond, ◌&&◌, ◌||◌, leb, eqb}
+use Rattle.std.specs.Prelude.{ℕ, List, [], ◌∷◌, get_or, ◌+◌, ◌*◌, ◌≤◌, ◌<◌, ◌≡◌, Bool, cond, ◌&&◌, ◌||◌, leb, eqb, Result, Ok, Err, ⊤}
 use Rattle.bernstein.specs.Three.{Direction, Three, three, ◌!◌}
 use Rattle.bernstein.specs.Numbers.{Degrees, Small}
 use Rattle.bernstein.specs.Numbers
@@ -10,7 +10,7 @@ use Rattle.system.specs.Directions.{direction_number, each, between}
 use Rattle.system.specs.Refusals.{at_start}
 use Rattle.system.specs.declared.refusal.Refusal.{Refusal}
 use Rattle.system.specs.declared.head.Head.{Head}
-use Rattle.system.specs.declared.head.Checked.{Checked}
+use Rattle.system.specs.declared.refusal.Refused.{Refused}
 
 abbrev pub degrees : Head → Degrees
 degrees h = three h.n1 h.n2 h.n3
@@ -59,5 +59,22 @@ pub record Limits (h : Head) : Type 0 where
   pub size_high : size (degrees h) ≤ 64
 
 -- refusal 4
-abbrev pub checked : Head → Checked
-checked h = cond (head_ok h) Checked.Good (Checked.Refused (at_start Refusal.OutOfLimits))
+abbrev pub checked : Head → Result ⊤ Refused
+checked h = cond (head_ok h) (Ok tt) (Err (at_start Refusal.OutOfLimits))
+
+-- ---- as eight bytes
+-- l, m, n1, n2, n3, g1, g2, g3: as in the file
+abbrev pub head_from : List ℕ → Head
+head_from b = record {
+  l = get_or b 0 0;
+  m = get_or b 1 0;
+  n1 = get_or b 2 0;
+  n2 = get_or b 3 0;
+  n3 = get_or b 4 0;
+  g1 = get_or b 5 0;
+  g2 = get_or b 6 0;
+  g3 = get_or b 7 0;
+}
+
+abbrev pub head_numbers : Head → List ℕ
+head_numbers h = h.l ∷ h.m ∷ h.n1 ∷ h.n2 ∷ h.n3 ∷ h.g1 ∷ h.g2 ∷ h.g3 ∷ []

@@ -26,5 +26,9 @@ number TooShort = 9
 -- a box or state outside the rules
 number OutsideRules = 10
 
+-- why, and where in the file
+abbrev pub at : Refusal → ℕ → Refused
+at w o = record { why = w; at = o }
+
 abbrev pub at_start : Refusal → Refused
-at_start w = record { why = w; at = 0 }
+at_start w = at w 0

@@ -1,14 +1,13 @@
 // The head of a system: its limits, its sizes, the place of a term and the scale. Every call takes any bytes.
-ghost use Rattle.std.specs.Prelude.{◌≡◌, ◌+◌, ◌≤◌};
+ghost use Rattle.std.specs.Prelude.{◌≡◌, ◌+◌, ◌≤◌, OnOk, MatchResult, Ok, Err};
 ghost use Rattle.bernstein.specs.Three.{three};
 ghost use Rattle.bernstein.specs.Numbers as Numbers;
 ghost use Rattle.bernstein.specs.Places as Places;
-ghost use Rattle.system.specs.Heads.{degrees, places, depth, width, scale, variable_ok, head_ok, checked};
+ghost use Rattle.system.specs.Heads.{degrees, places, depth, width, scale, variable_ok, head_ok, Limits, checked, head_from, head_numbers};
 
 use crate::refusal::{Refusal, Refused};
-use crate::test::{both, either, from_to};
 
-#[derive(Clone, Copy)]
+#[derive(Clone, Copy, PartialEq, Eq)]
 pub struct Head {
     pub l: u8,
     pub m: u8,
@@ -20,32 +19,56 @@ pub struct Head {
     pub g3: u8,
 }
 
-#[derive(Clone, Copy)]
-pub enum Checked {
-    Good,
-    Refused(Refused),
+// A head within its limits.
+#[derive(Clone, Copy, PartialEq, Eq)]
+pub struct Limited {
+    pub head: Head,
+    ghost limits: { Limits head },
 }
 
-fn wide(x: u8) -> usize
-    ensures { (result ≡ x) × (result ≤ 255) }
-{
-    x as usize
+// As eight bytes, in a file and for C: l, m, n1, n2, n3, g1, g2, g3.
+impl From<[u8; 8]> for Head {
+    ghost from_gives = { λ b h. h ≡ head_from b };
+
+    fn from(bytes: [u8; 8]) -> Self {
+        let [l, m, n1, n2, n3, g1, g2, g3] = bytes;
+        Head {
+            l,
+            m,
+            n1,
+            n2,
+            n3,
+            g1,
+            g2,
+            g3,
+        }
+    }
 }
 
-fn past(x: u8) -> usize
+impl From<Head> for [u8; 8] {
+    ghost from_gives = { λ h b. b ≡ head_numbers h };
+
+    fn from(h: Head) -> [u8; 8] {
+        [h.l, h.m, h.n1, h.n2, h.n3, h.g1, h.g2, h.g3]
+    }
+}
+
+// The numbers that a degree has in its direction.
+pub fn past(x: u8) -> usize
     ensures { (result ≡ x + 1) × (result ≤ 256) }
 {
-    (x as usize) + 1
+    usize::from(x) + 1
 }
 
 // Beyond variable l degree and depth are 0.
 fn variable_ok(l: u8, r: u8, n: u8, g: u8) -> bool
     ensures { result ≡ variable_ok l r n g }
 {
-    both(both(n <= 6, g <= 10), either(r <= l, both(n == 0, g == 0)))
+    n <= 6 && g <= 10 && (r <= l || (n == 0 && g == 0))
 }
 
 // A degree's factor; 1 for a degree that no head has.
+#[tactic(auto, unfolding(bernstein::specs::Numbers::scale))]
 fn factor(n: u8) -> usize
     ensures { (result ≡ Numbers.scale n) × (result ≤ 60) }
 {
@@ -60,35 +83,39 @@ fn factor(n: u8) -> usize
 }
 
 impl Head {
+    #[tactic(auto, unfolding(crate::specs::Heads::head_ok))]
     pub fn ok(self) -> bool
         ensures { result ≡ head_ok self }
     {
-        both(
-            both(
-                both(from_to(1, 3, self.l), from_to(1, 3, self.m)),
-                both(
-                    both(
-                        variable_ok(self.l, 1, self.n1, self.g1),
-                        variable_ok(self.l, 2, self.n2, self.g2),
-                    ),
-                    variable_ok(self.l, 3, self.n3, self.g3),
-                ),
-            ),
-            self.size() <= 64,
-        )
+        (1..=3).contains(&self.l)
+            && (1..=3).contains(&self.m)
+            && variable_ok(self.l, 1, self.n1, self.g1)
+            && variable_ok(self.l, 2, self.n2, self.g2)
+            && variable_ok(self.l, 3, self.n3, self.g3)
+            && self.size() <= 64
     }
 
-    pub fn check(self) -> Checked
-        ensures { result ≡ checked self }
+    pub fn check(self) -> Result<(), Refused>
+        ensures is { result ≡ checked self }
+        ensures within { OnOk result (Limits self) }
     {
         if self.ok() {
-            Checked::Good
+            Ok(())
         } else {
-            Checked::Refused(Refusal::OutOfLimits.at_start())
+            Err(Refusal::OutOfLimits.at_start())
         }
     }
 
+    // The same test, for calls that ask for a head within its limits.
+    pub fn limited(self) -> Result<Limited, Refused>
+        ensures { MatchResult result (λ t. (checked self ≡ Ok tt) × (t.head ≡ self)) (λ e. checked self ≡ Err e) }
+    {
+        self.check()?;
+        Ok(Limited { head: self })
+    }
+
     // S
+    #[tactic(auto, unfolding(bernstein::specs::Places::size))]
     pub fn size(self) -> usize
         ensures { result ≡ Places.size (degrees self) }
     {
@@ -96,17 +123,18 @@ impl Head {
     }
 
     // m × S
+    #[tactic(auto, unfolding(crate::specs::Heads::places))]
     pub fn places(self) -> usize
         ensures { result ≡ places self }
     {
-        wide(self.m) * self.size()
+        usize::from(self.m) * self.size()
     }
 
     // D
     pub fn depth(self) -> usize
         ensures { result ≡ depth self }
     {
-        wide(self.g1) + wide(self.g2) + wide(self.g3)
+        usize::from(self.g1) + usize::from(self.g2) + usize::from(self.g3)
     }
 
     // The numbers of a slot.
@@ -116,12 +144,14 @@ impl Head {
         6 + self.places()
     }
 
+    #[tactic(auto, unfolding(bernstein::specs::Places::place))]
     pub fn place(self, i1: u8, i2: u8, i3: u8) -> usize
         ensures { result ≡ Places.place (degrees self) (three i1 i2 i3) }
     {
-        (wide(i1) * past(self.n2) + wide(i2)) * past(self.n3) + wide(i3)
+        (usize::from(i1) * past(self.n2) + usize::from(i2)) * past(self.n3) + usize::from(i3)
     }
 
+    #[tactic(auto, unfolding(crate::specs::Heads::scale))]
     pub fn scale(self) -> usize
         ensures { result ≡ scale self }
     {

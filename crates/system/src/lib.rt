@@ -3,4 +3,3 @@
 
 pub mod head;
 pub mod refusal;
-pub mod test;

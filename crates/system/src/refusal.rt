@@ -1,8 +1,8 @@
 // Why a call refuses, with 01's number, and where in the file.
 ghost use Rattle.std.specs.Prelude.{◌≡◌};
-ghost use Rattle.system.specs.Refusals.{number, at_start};
+ghost use Rattle.system.specs.Refusals.{number, at, at_start};
 
-#[derive(Clone, Copy)]
+#[derive(Clone, Copy, PartialEq, Eq)]
 pub enum Refusal {
     Ended,
     NotDue,
@@ -16,17 +16,17 @@ pub enum Refusal {
     OutsideRules,
 }
 
-#[derive(Clone, Copy)]
+#[derive(Clone, Copy, PartialEq, Eq)]
 pub struct Refused {
     pub why: Refusal,
     pub at: usize,
 }
 
-impl Refusal {
-    pub fn number(self) -> u8
-        ensures { result ≡ number self }
-    {
-        match self {
+impl From<Refusal> for u8 {
+    ghost from_gives = { λ w n. n ≡ number w };
+
+    fn from(why: Refusal) -> u8 {
+        match why {
             Refusal::Ended => 1,
             Refusal::NotDue => 2,
             Refusal::WrongLength => 3,
@@ -39,11 +39,22 @@ impl Refusal {
             Refusal::OutsideRules => 10,
         }
     }
+}
+
+impl Refusal {
+    pub fn at(self, offset: usize) -> Refused
+        ensures { result ≡ at self offset }
+    {
+        Refused {
+            why: self,
+            at: offset,
+        }
+    }
 
     // In a call that reads no file the offset is 0.
     pub fn at_start(self) -> Refused
         ensures { result ≡ at_start self }
     {
-        Refused { why: self, at: 0 }
+        self.at(0)
     }
 }

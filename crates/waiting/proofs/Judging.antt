@@ -1,4 +1,5 @@
 -- The tests of a state say what 01 says: a slot, the waiting slots, the counts, and the whole check (`judged_allowed`). Assumes nothing.
+use Rattle.std.specs.Prelude.{Result, Ok, Err, ⊤}
 use mathlib.Core.Path.{◌≡◌, refl, sym, ap, subst}
 use mathlib.Core.Bool.{Bool, true, false}
 use mathlib.Core.List.{List, [], ◌∷◌}
@@ -10,11 +11,10 @@ use lib.Dec.{T, leb}
 use lib.IntN.{ℤ, pos, nat_abs}
 use lib.ListN.{length}
 use lib.Signed.{le_z, ◌≤ℤ◌}
-use Rattle.bernstein.specs.Three.{◌!◌}
+use Rattle.bernstein.specs.Three.{◌!◌, first, second, third}
 use Rattle.system.specs.declared.refusal.Refusal.{Refusal}
 use Rattle.system.specs.declared.head.Head.{Head}
-use Rattle.system.specs.declared.head.Checked.{Checked}
-use Rattle.system.specs.declared.head.Checked.TheVariants.{Good, Refused}
+use Rattle.system.specs.declared.refusal.Refused.{Refused}
 use Rattle.system.specs.Heads.{depths, depth, width, Limits, checked}
 use Rattle.system.proofs.Says.{Says, le_says, lt_says, and_says, each_says, says_as, says_same}
 use Rattle.system.proofs.Heads.{head_says}
@@ -22,7 +22,7 @@ use Rattle.slots.specs.Slots.{at, column, numbers, SpanFits}
 use Rattle.slots.specs.Rules.{every, within}
 use Rattle.search.specs.Lent.{slot}
 use Rattle.system.specs.Chain.{test, ◌then◌}
-use Rattle.waiting.specs.States.{most, cuts, needed, span_ok, slot_ok, slots_ok, counts_ok, records_ok, list_ok, judged_by, SlotAllowed, JudgedByNumber, JudgedAllowed}
+use Rattle.waiting.specs.States.{most, cuts, needed, span_ok, spans_ok, slot_ok, slots_ok, counts_ok, records_ok, list_ok, judged_by, SlotAllowed, JudgedByNumber, JudgedAllowed}
 use Rattle.waiting.specs.declared.state.State.{State}
 use Rattle.waiting.specs.declared.cursor.Kept.{Kept}
 
@@ -53,6 +53,12 @@ span_says g s k =
 
 pub few_cuts : (g : ℕ) (s k : ℤ) → g ≤ 10 → span_ok g s k ≡ true → nat_abs s ≤ 10
 few_cuts g s k h e = omega (arith, ((span_says g s k).fact e).s_high)
+
+-- so that they can be counted
+pub spans_few : (h : Head) (l : List ℤ) → Limits h → spans_ok h l ≡ true → (nat_abs (at l 0) ≤ 10) × (nat_abs (at l 2) ≤ 10) × (nat_abs (at l 4) ≤ 10)
+spans_few h l m e =
+    let f = (each_says (λ r. span_says (depths h ! r) (at l (column r)) (at l (column r + 1)))).fact e in
+    (omega (arith, (f first).s_high, m.depths_high first), omega (arith, (f second).s_high, m.depths_high second), omega (arith, (f third).s_high, m.depths_high third))
 
 pub slot_says : (h : Head) (p : ℕ) (l : List ℤ) → Says (slot_ok h p l) (SlotAllowed h p l)
 unfolding slot_ok
@@ -88,24 +94,24 @@ slots_stop h n p st l e = from (slots_ok h n st) refl
     from true f = let z : ◌≡◌ {A = ℕ} 0 1 = cc ((slot_says h p (slot (width h) p st)).passes ((slots_says h n st).fact f p l)) in absurd (omega arith)
 
 -- ---- a chain of tests passes exactly if each does
-pub record Passes (c : Checked) (A : Type 0) : Type 0 where
-  pub fact : c ≡ Good → A
-  pub passes : A → c ≡ Good
+pub record Passes (c : Result ⊤ Refused) (A : Type 0) : Type 0 where
+  pub fact : c ≡ Ok tt → A
+  pub passes : A → c ≡ Ok tt
 
 test_passes : {b : Bool} {A : Type 0} (w : Refusal) → Says b A → Passes (test b w 0) A
 test_passes {b} w s = record { fact = λ e. s.fact (from b e); passes = λ a. rw (s.passes a) refl }
   where
-    from : (b : Bool) → test b w 0 ≡ Good → b ≡ true
+    from : (b : Bool) → test b w 0 ≡ Ok tt → b ≡ true
     from true e = refl
     from false e = let z : ◌≡◌ {A = ℕ} 0 1 = cc in absurd (omega arith)
 
 infixr 30 ◌then-passes◌
-pub ◌then-passes◌ : {c d : Checked} {A B : Type 0} → Passes c A → Passes d B → Passes (c then d) (A × B)
+pub ◌then-passes◌ : {c d : Result ⊤ Refused} {A B : Type 0} → Passes c A → Passes d B → Passes (c then d) (A × B)
 ◌then-passes◌ {c} {d} p q = record { fact = λ e. let b = both c e in (p.fact b.0, q.fact b.1); passes = λ ab. rw (p.passes ab.0) (q.passes ab.1) }
   where
-    both : (c : Checked) → c then d ≡ Good → (c ≡ Good) × (d ≡ Good)
-    both Good e = (refl, e)
-    both (Refused w) e = let z : ◌≡◌ {A = ℕ} 0 1 = cc in absurd (omega arith)
+    both : (c : Result ⊤ Refused) → c then d ≡ Ok tt → (c ≡ Ok tt) × (d ≡ Ok tt)
+    both (Ok u) e = (refl, e)
+    both (Err w) e = let z : ◌≡◌ {A = ℕ} 0 1 = cc in absurd (omega arith)
 
 pub head_passes : (h : Head) → Passes (checked h) (Limits h)
 head_passes h = test_passes Refusal.OutOfLimits (head_says h)

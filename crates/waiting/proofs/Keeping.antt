@@ -1,5 +1,6 @@
 -- A step keeps what it is given (`ready_next`), a state that passes the check and a fresh start may be run with any 32-bit budget and any list, and every
 -- stop of a run is allowed again. Assumes nothing.
+use Rattle.std.specs.Prelude.{Result, Ok, Err}
 use mathlib.Core.Path.{◌≡◌, refl, sym, ap, subst, ◌∙◌}
 use mathlib.Core.Bool.{Bool, true, cond}
 use mathlib.Core.List.{List, []}
@@ -9,7 +10,7 @@ use lib.IntN.{ℤ}
 use lib.ListN.{length, replicate, length-replicate}
 use Rattle.bernstein.specs.Numbers.{Box, unit}
 use Rattle.system.specs.declared.head.Head.{Head}
-use Rattle.system.specs.declared.head.Checked.TheVariants.{Good}
+use Rattle.boxes.specs.declared.visit.Word.{Word}
 use Rattle.boxes.specs.declared.visit.Outcome.{Outcome}
 use Rattle.system.specs.Heads.{depth, width, Limits}
 use Rattle.search.specs.Machine.{go, drive}
@@ -21,12 +22,11 @@ use Rattle.search.proofs.Slots.{stack_length}
 use Rattle.waiting.specs.Cells.{boxed, cells, left}
 use Rattle.waiting.specs.States.{needed, Allowed, judged}
 use Rattle.waiting.specs.States.{memory_of, state_of}
-use Rattle.waiting.specs.Steps.{begun, due, visited, moved, by_due, next, Ready}
+use Rattle.waiting.specs.Steps.{begun, due, visited, moved, goes, by_due, next, Ready}
 use Rattle.waiting.specs.Runs.{StopsAllowed}
 use Rattle.waiting.specs.declared.state.State.{State}
 use Rattle.waiting.specs.declared.cursor.Kept.{Kept}
 use Rattle.waiting.specs.declared.cursor.Cursor.{Cursor}
-use Rattle.waiting.specs.declared.step.Due.{Due}
 use Rattle.waiting.proofs.Measures.{halves_wide, measured}
 use Rattle.waiting.proofs.Judging.{AllAllowed, judged_allowed}
 use Rattle.waiting.proofs.Standing.{to_stack, from_stack, stacked, Stands, stands_closed}
@@ -122,9 +122,9 @@ module _ (h : Head) (st : List ℤ) (c : Cursor) (r : Ready h st c) where
         visits_fit = omega (arith, moved_visits h st c o, r.visits_fit, v.budget);
       }
 
-  ready_by : (d : Due) → SaysDue (boxed h) st c d → Ready h (by_due (boxed h) st c d).store (by_due (boxed h) st c d).cursor
-  ready_by (Due.Stop w) s = record { limits = r.limits; long = r.long; slots = r.slots; kept_high = r.kept_high; room_fits = r.room_fits; dropped_high = r.dropped_high; visits_fit = r.visits_fit }
-  ready_by (Due.Visit o) s = ready_moved o s
+  ready_by : (d : Result Outcome Word) → SaysDue (boxed h) st c d → Ready h (by_due (boxed h) st c d).store (by_due (boxed h) st c d).cursor
+  ready_by (Err w) s = record { limits = r.limits; long = r.long; slots = r.slots; kept_high = r.kept_high; room_fits = r.room_fits; dropped_high = r.dropped_high; visits_fit = r.visits_fit }
+  ready_by (Ok o) s = ready_moved o s
 
   -- The invariant of a driver's loop.
   pub ready_next : Ready h (next (boxed h) st c).store (next (boxed h) st c).cursor
@@ -132,18 +132,18 @@ module _ (h : Head) (st : List ℤ) (c : Cursor) (r : Ready h st c) where
   ready_next = ready_by (due (boxed h) st c) (due_says (boxed h) st c)
 
   -- its measure: what is left of the budget, and the turn that stops
-  fewer_by : (d : Due) → SaysDue (boxed h) st c d → turns_left (by_due (boxed h) st c d).cursor < suc c.left
-  fewer_by (Due.Stop w) s = omega arith
-  fewer_by (Due.Visit o) s = omega (arith, s.budget)
+  fewer_by : (d : Result Outcome Word) → SaysDue (boxed h) st c d → turns_left (by_due (boxed h) st c d).cursor < suc c.left
+  fewer_by (Err w) s = omega arith
+  fewer_by (Ok o) s = omega (arith, s.budget)
 
-  pub next_fewer : c.go ≡ true → turns_left (next (boxed h) st c).cursor < turns_left c
+  pub next_fewer : goes c ≡ true → turns_left (next (boxed h) st c).cursor < turns_left c
   unfolding next
   next_fewer e =
       let n : turns_left c ≡ suc c.left = ap (λ (b : Bool). cond b (suc c.left) 0) e in
       subst (λ (i : ℕ). turns_left (next (boxed h) st c).cursor < i) (sym n) (fewer_by (due (boxed h) st c) (due_says (boxed h) st c))
 
 -- a state that passes the check may be run with any 32-bit budget and any list
-pub judged_ready : (h : Head) (s : State) (st : List ℤ) (list : List Kept) (budget : ℕ) → length list < 2 ^ 64 → budget < 2 ^ 32 → judged h s st list ≡ Good
+pub judged_ready : (h : Head) (s : State) (st : List ℤ) (list : List Kept) (budget : ℕ) → length list < 2 ^ 64 → budget < 2 ^ 32 → judged h s st list ≡ Ok tt
     → Ready h st (begun s budget (length list))
 judged_ready h s st list budget r b e =
     let k = (judged_allowed h s st list).0 e in

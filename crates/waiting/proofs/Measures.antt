@@ -9,7 +9,7 @@ use Rattle.bernstein.specs.Three
 use Rattle.bernstein.specs.Three.{first, second, third, ◌!◌}
 use Rattle.system.specs.declared.head.Head.{Head}
 use Rattle.boxes.specs.declared.half.Direction.{Direction}
-use Rattle.boxes.specs.declared.visit.Sign.{Sign}
+use Rattle.whole.specs.declared.Sign.{Sign}
 use Rattle.boxes.specs.declared.visit.Outcome.{Outcome}
 use Rattle.system.specs.Heads.{depths}
 use Rattle.boxes.specs.Boxes.{direction}

@@ -13,8 +13,8 @@ use Rattle.bernstein.specs.Numbers.{half_box}
 use Rattle.bernstein.specs.Points.{Has}
 use Rattle.system.specs.declared.head.Head.{Head}
 use Rattle.boxes.specs.declared.half.Direction.{Direction}
-use Rattle.boxes.specs.declared.visit.Sign.{Sign}
-use Rattle.boxes.specs.declared.visit.Sign.TheVariants.{Above, Below}
+use Rattle.whole.specs.declared.Sign.{Sign}
+use Rattle.whole.specs.declared.Sign.TheVariants.{Above, Below}
 use Rattle.system.specs.Heads.{frame, places, Limits}
 use Rattle.system.proofs.Heads.{lawful}
 use Rattle.boxes.specs.Boxes.{direction}

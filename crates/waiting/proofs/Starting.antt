@@ -1,4 +1,5 @@
 -- A start that passes its tests leaves a state that the rules allow, whose memory holds the start of the search, in a slot of exact numbers. Assumes nothing.
+use Rattle.std.specs.Prelude.{Ok}
 use mathlib.Core.Path.{◌≡◌, refl, sym, ap, subst, ◌∙◌}
 use mathlib.Core.Bool.{true}
 use mathlib.Core.List.{List, ◌++◌}
@@ -11,7 +12,6 @@ use lib.Seq.{take_at, drop_at, drop-drop, get_or-take, length-take-le}
 use Rattle.bernstein.specs.Numbers.{Box}
 use Rattle.system.specs.declared.refusal.Refusal.{Refusal}
 use Rattle.system.specs.declared.head.Head.{Head}
-use Rattle.system.specs.declared.head.Checked.TheVariants.{Good}
 use Rattle.system.specs.Heads.{places, depth, width, Limits}
 use Rattle.slots.specs.Slots.{at, unit_slot}
 use Rattle.slots.specs.Rules.{every, within}
@@ -35,7 +35,7 @@ pub record Startable (h : Head) (cs st : List ℤ) : Type 0 where
   pub in_range : (i : ℕ) → i < places h → nat_abs (at cs i) ≤ 1000000000
   pub long : needed h ≤ length st
 
-pub start_passes : (h : Head) (cs st : List ℤ) → start_check h cs st ≡ Good → Startable h cs st
+pub start_passes : (h : Head) (cs st : List ℤ) → start_check h cs st ≡ Ok tt → Startable h cs st
 unfolding start_check
 start_passes h cs st e =
     let f = (head_passes h then-passes le_passes (places h) (length cs) Refusal.TooShort then-passes true_passes (every (within 1000000000) (take (places h) cs)) Refusal.BadCoefficient
@@ -100,7 +100,7 @@ module _ (h : Head) (cs st : List ℤ) where
   unfolding stack
   fresh_held list = ap (λ (l : List ℤ). start (slots (cells h)) l) fresh_slot
 
-  module _ (e : start_check h cs st ≡ Good) where
+  module _ (e : start_check h cs st ≡ Ok tt) where
     -- exact numbers within M
     pub start_fit : Fit h cs (unit_slot h cs)
     start_fit = unit_fit h (start_passes h cs st e).limits cs (start_passes h cs st e).in_range

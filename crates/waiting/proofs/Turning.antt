@@ -1,4 +1,5 @@
 -- What is due before a visit, taken apart; that it is the turn of the lent machine; and what a visit that is due may rely on. Assumes nothing.
+use Rattle.std.specs.Prelude.{Result, Ok, Err}
 use mathlib.Core.Path.{◌≡◌, refl, sym, ap, ◌∙◌}
 use mathlib.Core.Bool.{Bool, true, false, cond}
 use mathlib.Core.Logic.{◌≢◌}
@@ -28,7 +29,6 @@ use Rattle.waiting.specs.Cells.{as_look, Boxed, cells_of, boxed}
 use Rattle.waiting.specs.States.{SlotAllowed, MayCut}
 use Rattle.waiting.specs.Steps.{top, for_room, due, Ready, MayVisit}
 use Rattle.waiting.specs.declared.cursor.Cursor.{Cursor}
-use Rattle.waiting.specs.declared.step.Due.{Due}
 use Rattle.waiting.proofs.Measures.{half_left}
 use Rattle.waiting.proofs.Standing.{slot_left}
 
@@ -46,18 +46,18 @@ module _ {A : Type 0} (K : Boxed A) (st : List A) (c : Cursor) where
     pub is_look : K.says (top K st c.state) ≡ o
     pub has_room : (mark : ℕ) → o ≡ Outcome.Kept mark → c.state.kept < c.room
 
-  abbrev pub SaysDue : Due → Type 0
-  SaysDue (Due.Stop Word.Finished) = c.state.waiting ≡ 0
-  SaysDue (Due.Stop Word.Spent) = (1 ≤ c.state.waiting) × (c.left ≡ 0)
-  SaysDue (Due.Stop Word.Full) = (mark : ℕ) × FullOf mark
-  SaysDue (Due.Visit o) = Visits o
+  abbrev pub SaysDue : Result Outcome Word → Type 0
+  SaysDue (Err Word.Finished) = c.state.waiting ≡ 0
+  SaysDue (Err Word.Spent) = (1 ≤ c.state.waiting) × (c.left ≡ 0)
+  SaysDue (Err Word.Full) = (mark : ℕ) × FullOf mark
+  SaysDue (Ok o) = Visits o
 
   pub due_says : SaysDue (due K st c)
   unfolding due
   due_says = waits (eqb c.state.waiting 0) refl
     where
       kept_or_not : (w : 1 ≤ c.state.waiting) (b : 1 ≤ c.left) (mark : ℕ) → K.says (top K st c.state) ≡ Outcome.Kept mark → (t : Bool) → leb c.room c.state.kept ≡ t
-          → SaysDue (cond t (Due.Stop Word.Full) (Due.Visit (Outcome.Kept mark)))
+          → SaysDue (cond t (Err Word.Full) (Ok (Outcome.Kept mark)))
       kept_or_not w b mark e true f = (mark, record { waits = w; budget = b; full = leb-true c.room c.state.kept f; is_look = e })
       kept_or_not w b mark e false f = record { waits = w; budget = b; is_look = e; has_room = λ m q. leb-false c.room c.state.kept f }
 
@@ -66,12 +66,12 @@ module _ {A : Type 0} (K : Boxed A) (st : List A) (c : Cursor) where
       by_look w b (Outcome.Kept mark) e = kept_or_not w b mark e (leb c.room c.state.kept) refl
       by_look w b (Outcome.Cut r) e = record { waits = w; budget = b; is_look = e; has_room = λ m q. let z : ◌≡◌ {A = ℕ} 0 1 = cc in absurd (omega arith) }
 
-      left_some : 1 ≤ c.state.waiting → (t : Bool) → eqb c.left 0 ≡ t → SaysDue (cond t (Due.Stop Word.Spent) (for_room c.state.kept c.room (K.says (top K st c.state))))
+      left_some : 1 ≤ c.state.waiting → (t : Bool) → eqb c.left 0 ≡ t → SaysDue (cond t (Err Word.Spent) (for_room c.state.kept c.room (K.says (top K st c.state))))
       left_some w true e = (w, eqb-true c.left 0 e)
       left_some w false e = let n = eqb-false c.left 0 e in by_look w (omega arith) (K.says (top K st c.state)) refl
 
       waits : (t : Bool) → eqb c.state.waiting 0 ≡ t
-          → SaysDue (cond t (Due.Stop Word.Finished) (cond (eqb c.left 0) (Due.Stop Word.Spent) (for_room c.state.kept c.room (K.says (top K st c.state)))))
+          → SaysDue (cond t (Err Word.Finished) (cond (eqb c.left 0) (Err Word.Spent) (for_room c.state.kept c.room (K.says (top K st c.state)))))
       waits true e = eqb-true c.state.waiting 0 e
       waits false e = let n = eqb-false c.state.waiting 0 e in left_some (omega arith) (eqb c.left 0) refl
 

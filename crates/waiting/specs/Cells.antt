@@ -4,7 +4,7 @@ use Rattle.whole.specs.Half.{Half}
 use Rattle.bernstein.specs.Numbers.{Box}
 use Rattle.system.specs.declared.head.Head.{Head}
 use Rattle.boxes.specs.declared.half.Direction.{Direction}
-use Rattle.boxes.specs.declared.visit.Sign.{Sign}
+use Rattle.whole.specs.declared.Sign.{Sign}
 use Rattle.boxes.specs.declared.visit.Outcome.{Outcome}
 use Rattle.system.specs.Heads.{depths, width}
 use Rattle.boxes.specs.Boxes.{direction}

@@ -1,14 +1,13 @@
 // The state of a run, and its check against the head, the waiting store and the list.
 ghost use Rattle.std.specs.Prelude.{◌≡◌, leb};
-ghost use Rattle.waiting.specs.States.{counts_ok, judged_by};
-ghost use Rattle.system.specs.Chain.{refused};
+ghost use Rattle.waiting.specs.States.{counts_ok, judged_by, state_from, state_numbers};
 
 use crate::store::{long_enough, slots_ok};
-use system::head::{Checked, Head};
-use system::refusal::Refusal;
+use system::head::Head;
+use system::refusal::{Refusal, Refused};
 
 // The four counts.
-#[derive(Clone, Copy)]
+#[derive(Clone, Copy, PartialEq, Eq)]
 pub struct State {
     pub waiting: usize,
     pub kept: usize,
@@ -16,42 +15,48 @@ pub struct State {
     pub dropped: u64,
 }
 
-pub fn refuse(why: Refusal) -> Checked
-    ensures { result ≡ refused why 0 }
-{
-    Checked::Refused(why.at_start())
+// For C.
+impl From<[u64; 4]> for State {
+    ghost from_gives = { λ n s. s ≡ state_from n };
+
+    fn from(numbers: [u64; 4]) -> Self {
+        let [waiting, kept, visits, dropped] = numbers;
+        State {
+            waiting: waiting as usize,
+            kept: kept as usize,
+            visits,
+            dropped,
+        }
+    }
 }
 
+impl From<State> for [u64; 4] {
+    ghost from_gives = { λ s n. n ≡ state_numbers s };
+
+    fn from(s: State) -> [u64; 4] {
+        [s.waiting as u64, s.kept as u64, s.visits, s.dropped]
+    }
+}
+
+#[tactic(auto, unfolding(crate::specs::States::counts_ok))]
 fn counts_ok(h: Head, s: State) -> bool
     ensures { result ≡ counts_ok h s }
 {
-    if s.waiting > h.depth() + 1 {
-        return false;
-    }
-    if s.dropped > s.visits {
-        return false;
-    }
-    s.visits <= 2147483647
+    s.waiting <= h.depth() + 1 && s.dropped <= s.visits && s.visits <= 2147483647
 }
 
 // 4, 9, 10, in this order; of the list, whatever its records, that it has room for those kept.
-pub fn check(h: Head, s: State, store: &[i64], room: usize) -> Checked
+#[tactic(auto, unfolding(crate::specs::States::judged_by))]
+pub fn check(h: Head, s: State, store: &[i64], room: usize) -> Result<(), Refused>
     ensures { result ≡ judged_by h s store.now (leb s.kept room) }
 {
-    if !h.ok() {
-        return refuse(Refusal::OutOfLimits);
+    let limited = h.limited()?;
+    if !long_enough(limited, store.len()) {
+        return Err(Refusal::TooShort.at_start());
     }
-    if !long_enough(h, store.len()) {
-        return refuse(Refusal::TooShort);
+    if counts_ok(h, s) && slots_ok(store, limited, s.waiting) && s.kept <= room {
+        Ok(())
+    } else {
+        Err(Refusal::OutsideRules.at_start())
     }
-    if !counts_ok(h, s) {
-        return refuse(Refusal::OutsideRules);
-    }
-    if !slots_ok(store, h, s.waiting) {
-        return refuse(Refusal::OutsideRules);
-    }
-    if s.kept > room {
-        return refuse(Refusal::OutsideRules);
-    }
-    Checked::Good
 }

@@ -7,5 +7,4 @@ pub mod Lin
 pub mod Sums
 pub mod Choose
 pub mod Machine
-pub mod Negatives
 pub mod Parts

@@ -90,14 +90,8 @@ module _ (b : ℤ) (x : ℤ) (nn : pos 0 ≤ℤ b) where
   bound_is : b ≡ pos (nat_abs b)
   bound_is = sym (pos-nat_abs b (yes_non_neg nn))
 
-  pub bound_in : x ≤ℤ b → (pos 0 -ℤ b) ≤ℤ x → nat_abs x ≤ nat_abs b
-  bound_in p q = size_in x (nat_abs b) (subst (λ (z : ℤ). x ≤ℤ z) bound_is p) (subst (λ (z : ℤ). z ≤ℤ x) plain q)
-
   pub bound_over : b <ℤ x → nat_abs x ≤ nat_abs b → ⊥
   bound_over p = size_over x (nat_abs b) (subst (λ (z : ℤ). z <ℤ x) bound_is p)
-
-  pub bound_under : x <ℤ (pos 0 -ℤ b) → nat_abs x ≤ nat_abs b → ⊥
-  bound_under p = size_under x (nat_abs b) (subst (λ (z : ℤ). x <ℤ z) plain p)
 
 -- `-b` fits where b is not the least i64
 pub neg_fits : (b : ℤ) → pos 0 ≤ℤ b → SFits w64 b → SFits w64 (pos 0 -ℤ b)

@@ -1,15 +1,26 @@
 // Small functions on 64-bit signed numbers, each with the whole number that it gives. Sums stand in the code that needs them.
 #![tactic(auto)]
 
-ghost use Rattle.std.specs.Prelude.{◌≡◌, ◌<◌, ◌^◌, pos, nat_abs, neg_ℤ, ◌*ℤ◌};
+ghost use Rattle.std.specs.Prelude.{◌≡◌, ◌<◌, ◌^◌, pos, nat_abs, ◌*ℤ◌};
 ghost use Rattle.whole.specs.Size.{Below};
-ghost use Rattle.whole.specs.Side.{side_of};
+ghost use Rattle.whole.specs.Side.{side_of, sign_number};
 
-#[derive(Clone, Copy)]
-pub enum Side {
+// A strict sign; zero has none.
+#[derive(Clone, Copy, PartialEq, Eq)]
+pub enum Sign {
     Above,
     Below,
-    Zero,
+}
+
+impl From<Sign> for u8 {
+    ghost from_gives = { λ s n. n ≡ sign_number s };
+
+    fn from(s: Sign) -> u8 {
+        match s {
+            Sign::Above => 1,
+            Sign::Below => 2,
+        }
+    }
 }
 
 // 2 ^ e.
@@ -29,7 +40,7 @@ pub fn scaled(x: i64, e: usize) -> i64
     pow2(e) * x
 }
 
-// An unsigned number as a signed one.
+// An unsigned number as a signed one, where it fits: `i64::try_from` would give a Result that is never an Err.
 pub fn of(u: u64) -> i64
     requires { u < 2 ^ 63 }
     ensures { result ≡ pos u }
@@ -37,33 +48,22 @@ pub fn of(u: u64) -> i64
     u as i64
 }
 
-pub fn neg(x: i64) -> i64
-    requires { Below (2 ^ 63) x }
-    ensures { result ≡ neg_ℤ x }
-{
-    -x
-}
-
-// The number without its sign. -2^63 has no negative that fits, so the number next to it is turned.
+// The number without its sign. -2^63 has no negative that fits, and yet a size. A function of its own, as two wrong edits of it have to be refused.
 pub fn size(x: i64) -> u64
     ensures { result ≡ nat_abs x }
 {
-    if x < 0 {
-        neg(x + 1) as u64 + 1
-    } else {
-        x as u64
-    }
+    x.unsigned_abs()
 }
 
 // Above zero, below zero, or neither.
-pub fn side_of(x: i64) -> Side
+pub fn side_of(x: i64) -> Option<Sign>
     ensures { result ≡ side_of x }
 {
     if x < 0 {
-        return Side::Below;
+        return Some(Sign::Below);
     }
     if 0 < x {
-        return Side::Above;
+        return Some(Sign::Above);
     }
-    Side::Zero
+    None
 }

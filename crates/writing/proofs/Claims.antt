@@ -1,4 +1,5 @@
 -- The statements of specs/Claims, proved. Assumes nothing.
+use Rattle.std.specs.Prelude.{Result, Ok, Err, ⊤}
 use mathlib.Core.Path.{◌≡◌, refl, sym, ap, ◌∙◌}
 use mathlib.Core.Bool.{true}
 use mathlib.Core.List.{List, ◌++◌}
@@ -14,17 +15,14 @@ use Rattle.file.specs.Bytes.{Bytes}
 use Rattle.system.specs.Heads.{places, head_ok}
 use Rattle.system.specs.declared.refusal.Refusal.TheVariants.{OutOfLimits, BadCoefficient, TooShort}
 use Rattle.system.specs.declared.head.Head.{Head}
-use Rattle.system.specs.declared.head.Checked.{Checked}
-use Rattle.system.specs.declared.head.Checked.TheVariants.{Good, Refused}
+use Rattle.system.specs.declared.refusal.Refused.{Refused}
 use Rattle.system.specs.Chain.{test, ◌then◌}
 use Rattle.file.specs.Layout.{Layout, layout}
 use Rattle.file.specs.Reading.{head_of, checked, numbers, filled, reads}
-use Rattle.file.specs.declared.reading.Answer.{Answer}
 use Rattle.file.proofs.Tests.{parts, passed}
 use Rattle.file.proofs.Answering.{reads_fine}
 use Rattle.writing.specs.Writing.{polynomials_bytes, file_bytes, all_in_range, writable, written, writes}
 use Rattle.writing.specs.Claims.{WrittenBack, ReadBack, Decided, OneFile, InLimits, Unread, Unwritten}
-use Rattle.writing.specs.declared.Written.{Written}
 use Rattle.writing.proofs.ReadBack.{System, checked_written, numbers_back}
 use Rattle.writing.proofs.WriteBack.{file_back, system_back}
 
@@ -34,30 +32,30 @@ never z = absurd (omega arith)
 
 -- a file that reads
 pub record Readable (s : List ℕ) (out : List ℤ) (h : Head) (xs : List ℤ) : Type 0 where
-  pub good : checked s ≡ Good
+  pub good : checked s ≡ Ok tt
   pub room : places (head_of s) ≤ length out
   pub head_is : head_of s ≡ h
   pub numbers_are : numbers s ++ drop (places (head_of s)) out ≡ xs
 
 module _ (s : List ℕ) (out : List ℤ) where
-  abbrev outcome : Checked
+  abbrev outcome : Result ⊤ Refused
   outcome = checked s then test (leb (places (head_of s)) (length out)) TooShort 0
 
-  pub readable : (h : Head) (xs : List ℤ) → reads s out ≡ (Answer.System h, xs) → Readable s out h xs
+  pub readable : (h : Head) (xs : List ℤ) → reads s out ≡ (Ok h, xs) → Readable s out h xs
   unfolding reads
   readable h xs e = go outcome refl e
     where
-      go : (c : Checked) → outcome ≡ c → filled c s out ≡ (Answer.System h, xs) → Readable s out h xs
-      go Good q f =
+      go : (c : Result ⊤ Refused) → outcome ≡ c → filled c s out ≡ (Ok h, xs) → Readable s out h xs
+      go (Ok tt) q f =
           let a = parts (checked s) (test (leb (places (head_of s)) (length out)) TooShort 0) q in
-          let g : Answer.System (head_of s) ≡ Answer.System h = ap (λ (z : Answer × List ℤ). z.0) f in
+          let g : Ok (head_of s) ≡ Ok h = ap (λ (z : Result Head Refused × List ℤ). z.0) f in
           record {
             good = a.0;
             room = leb-true (places (head_of s)) (length out) (passed _ TooShort 0 a.1);
             head_is = cc g;
-            numbers_are = ap (λ (z : Answer × List ℤ). z.1) f;
+            numbers_are = ap (λ (z : Result Head Refused × List ℤ). z.1) f;
           }
-      go (Refused x) q f = let g : Answer.Refused x ≡ Answer.System h = ap (λ (z : Answer × List ℤ). z.0) f in let z : ◌≡◌ {A = ℕ} 0 1 = cc g in never z
+      go (Err x) q f = let g : Err x ≡ Ok h = ap (λ (z : Result Head Refused × List ℤ). z.0) f in let z : ◌≡◌ {A = ℕ} 0 1 = cc g in never z
 
 -- a system that is written
 pub record Writable (h : Head) (xs : List ℤ) (t : List ℕ) (n : ℕ) (t' : List ℕ) : Type 0 where
@@ -68,7 +66,7 @@ pub record Writable (h : Head) (xs : List ℤ) (t : List ℕ) (n : ℕ) (t' : Li
   pub bytes_are : file_bytes h xs ++ drop (length (file_bytes h xs)) t ≡ t'
 
 module _ (h : Head) (xs : List ℤ) (t : List ℕ) where
-  tests : writable h xs (length t) ≡ Good → (head_ok h ≡ true) × (places h ≤ length xs) × (all_in_range (take (places h) xs) ≡ true)
+  tests : writable h xs (length t) ≡ Ok tt → (head_ok h ≡ true) × (places h ≤ length xs) × (all_in_range (take (places h) xs) ≡ true)
   unfolding writable
   tests e =
       let a = parts (test (head_ok h) OutOfLimits 0) _ e in
@@ -76,19 +74,19 @@ module _ (h : Head) (xs : List ℤ) (t : List ℕ) where
       let c = parts (test (all_in_range (take (places h) xs)) BadCoefficient 0) (test (leb (length (file_bytes h xs)) (length t)) TooShort 0) b.1 in
       (passed _ OutOfLimits 0 a.0, leb-true (places h) (length xs) (passed _ TooShort 0 b.0), passed _ BadCoefficient 0 c.0)
 
-  pub writing : (n : ℕ) (t' : List ℕ) → writes h xs t ≡ (Written.Length n, t') → Writable h xs t n t'
+  pub writing : (n : ℕ) (t' : List ℕ) → writes h xs t ≡ (Ok n, t') → Writable h xs t n t'
   unfolding writes
   writing n t' e = go (writable h xs (length t)) refl e
     where
-      go : (c : Checked) → writable h xs (length t) ≡ c → written c h xs t ≡ (Written.Length n, t') → Writable h xs t n t'
-      go Good q f =
+      go : (c : Result ⊤ Refused) → writable h xs (length t) ≡ c → written c h xs t ≡ (Ok n, t') → Writable h xs t n t'
+      go (Ok tt) q f =
           let a = tests q in
-          let g : Written.Length (length (file_bytes h xs)) ≡ Written.Length n = ap (λ (z : Written × List ℕ). z.0) f in
-          record { enough = a.1; limits = a.0; ranged = a.2; length_is = cc g; bytes_are = ap (λ (z : Written × List ℕ). z.1) f }
-      go (Refused x) q f = let g : Written.Refused x ≡ Written.Length n = ap (λ (z : Written × List ℕ). z.0) f in let z : ◌≡◌ {A = ℕ} 0 1 = cc g in never z
+          let g : Ok (length (file_bytes h xs)) ≡ Ok n = ap (λ (z : Result ℕ Refused × List ℕ). z.0) f in
+          record { enough = a.1; limits = a.0; ranged = a.2; length_is = cc g; bytes_are = ap (λ (z : Result ℕ Refused × List ℕ). z.1) f }
+      go (Err x) q f = let g : Err x ≡ Ok n = ap (λ (z : Result ℕ Refused × List ℕ). z.0) f in let z : ◌≡◌ {A = ℕ} 0 1 = cc g in never z
 
   pub writes_fine : System h (take (places h) xs) → places h ≤ length xs → length (file_bytes h xs) ≤ length t
-      → writes h xs t ≡ (Written.Length (length (file_bytes h xs)), file_bytes h xs ++ drop (length (file_bytes h xs)) t)
+      → writes h xs t ≡ (Ok (length (file_bytes h xs)), file_bytes h xs ++ drop (length (file_bytes h xs)) t)
   unfolding writes writable
   writes_fine s e l = rw (s.limits, le-leb (places h) (length xs) e, s.ranged, le-leb (length (file_bytes h xs)) (length t) l) refl
 
@@ -144,7 +142,7 @@ read_back h xs t n t' e out l =
     rw f (reads_fine (file_bytes h ys) out (checked_written h ys s) (rw (head_front h ys) l) ∙ rw (head_front h ys, numbers_back h ys s) refl)
 
 pub decided : Decided
-decided s out a b xs ys p q = let e = sym p ∙ q in (ap (λ (z : Answer × List ℤ). z.0) e, ap (λ (z : Answer × List ℤ). z.1) e)
+decided s out a b xs ys p q = let e = sym p ∙ q in (ap (λ (z : Result Head Refused × List ℤ). z.0) e, ap (λ (z : Result Head Refused × List ℤ). z.1) e)
 
 pub one_file : OneFile
 one_file s t b c out h xs p q = sym (file_is s b out h xs (readable s out h xs p)) ∙ file_is t c out h xs (readable t out h xs q)
@@ -156,14 +154,14 @@ pub unread : Unread
 unfolding reads
 unread s out x out' e = go (outcome s out) e
   where
-    go : (c : Checked) → filled c s out ≡ (Answer.Refused x, out') → out' ≡ out
-    go Good f = let g : Answer.System (head_of s) ≡ Answer.Refused x = ap (λ (z : Answer × List ℤ). z.0) f in let z : ◌≡◌ {A = ℕ} 0 1 = cc g in never z
-    go (Refused y) f = sym (ap (λ (z : Answer × List ℤ). z.1) f)
+    go : (c : Result ⊤ Refused) → filled c s out ≡ (Err x, out') → out' ≡ out
+    go (Ok tt) f = let g : Ok (head_of s) ≡ Err x = ap (λ (z : Result Head Refused × List ℤ). z.0) f in let z : ◌≡◌ {A = ℕ} 0 1 = cc g in never z
+    go (Err y) f = sym (ap (λ (z : Result Head Refused × List ℤ). z.1) f)
 
 pub unwritten : Unwritten
 unfolding writes
 unwritten h xs t x t' e = go (writable h xs (length t)) e
   where
-    go : (c : Checked) → written c h xs t ≡ (Written.Refused x, t') → t' ≡ t
-    go Good f = let g : Written.Length (length (file_bytes h xs)) ≡ Written.Refused x = ap (λ (z : Written × List ℕ). z.0) f in let z : ◌≡◌ {A = ℕ} 0 1 = cc g in never z
-    go (Refused y) f = sym (ap (λ (z : Written × List ℕ). z.1) f)
+    go : (c : Result ⊤ Refused) → written c h xs t ≡ (Err x, t') → t' ≡ t
+    go (Ok tt) f = let g : Ok (length (file_bytes h xs)) ≡ Err x = ap (λ (z : Result ℕ Refused × List ℕ). z.0) f in let z : ◌≡◌ {A = ℕ} 0 1 = cc g in never z
+    go (Err y) f = sym (ap (λ (z : Result ℕ Refused × List ℕ). z.1) f)

@@ -1,4 +1,5 @@
 -- Terms as they are written: they are in order, and say the coefficients that were written. For every lawful layout. Assumes nothing.
+use Rattle.std.specs.Prelude.{Ok}
 use mathlib.Core.Path.{◌≡◌, refl, sym, ap, ◌∙◌}
 use mathlib.Core.Bool.{Bool, true, false, cond}
 use mathlib.Core.List.{List, [], ◌∷◌, ◌++◌}
@@ -9,7 +10,6 @@ use lib.IntN.{ℤ, pos, negsuc}
 use lib.ListN.{length}
 use Rattle.file.specs.Bytes.{bytes32}
 use Rattle.file.proofs.Words.{value_back}
-use Rattle.system.specs.declared.head.Checked.TheVariants.{Good}
 use Rattle.file.specs.Layout.{Layout}
 use Rattle.file.specs.Terms.{in_range, is_zero, terms, coefficients}
 use Rattle.file.proofs.Tests.{both}
@@ -38,15 +38,15 @@ module _ (L : Layout) (law : Lawful L) where
       }
 
   pub terms_written : (xs : List ℤ) (p o next : ℕ) (tail : List ℕ) → next ≤ p → p + length xs ≤ L.size → all_in_range xs ≡ true
-      → terms L (count xs) o next (terms_bytes L p xs ++ tail) ≡ Good
+      → terms L (count xs) o next (terms_bytes L p xs ++ tail) ≡ Ok tt
   unfolding terms terms_bytes count all_in_range
   terms_written [] p o next tail a b e = refl
   terms_written (x ∷ xs) p o next tail a b e =
       go (is_zero x) refl (terms_written xs (p + 1) o next tail (omega arith) (omega arith) (both (in_range x) (all_in_range xs) e).1)
       (terms_written xs (p + 1) (o + 7) (p + 1) tail (omega arith) (omega arith) (both (in_range x) (all_in_range xs) e).1)
     where
-      go : (z : Bool) → is_zero x ≡ z → terms L (count xs) o next (terms_bytes L (p + 1) xs ++ tail) ≡ Good → terms L (count xs) (o + 7) (p + 1) (terms_bytes L (p + 1) xs ++ tail) ≡ Good
-          → terms L (unless z (count xs)) o next (cond z [] (seven p x) ++ terms_bytes L (p + 1) xs ++ tail) ≡ Good
+      go : (z : Bool) → is_zero x ≡ z → terms L (count xs) o next (terms_bytes L (p + 1) xs ++ tail) ≡ Ok tt → terms L (count xs) (o + 7) (p + 1) (terms_bytes L (p + 1) xs ++ tail) ≡ Ok tt
+          → terms L (unless z (count xs)) o next (cond z [] (seven p x) ++ terms_bytes L (p + 1) xs ++ tail) ≡ Ok tt
       go true q i k = i
       go false q i k =
           good_terms L (count xs) o next _ (written_term p next x (terms_bytes L (p + 1) xs ++ tail) (omega arith) a (both (in_range x) (all_in_range xs) e).0 q)

@@ -1,21 +1,21 @@
 -- The records of the polynomials, put one after the other, and their lengths. Assumes nothing.
 use mathlib.Core.Path.{◌≡◌, refl, ap, ◌∙◌}
-use mathlib.Core.Bool.{true}
 use mathlib.Core.List.{List, [], ◌∷◌, ◌++◌}
 use Prim.Native.Nat.{ℕ, zero, suc, ◌+◌, ◌-◌, ◌*◌, ◌≤◌, ◌<◌}
 use native.Mathlib.Omega.{arith}
-use native.Mathlib.Nat.{suc-mul, zero-mul}
+use native.Mathlib.Nat.{suc-mul, zero-mul, mul_comm, add_comm, mul-le-mul_left}
 use lib.IntN.{ℤ}
-use lib.ListN.{length, take, drop, length-append}
-use lib.Seq.{take-add, drop-drop}
+use lib.ListN.{length, take, drop, length-append, length-drop}
+use lib.Seq.{take-add, take-take, drop-drop, length-take-le}
+use Rattle.std.proofs.lemmas.List.{drop-take}
 use Rattle.file.specs.Bytes.{bytes16, over}
-use Rattle.file.proofs.Putting.{over_over}
+use Rattle.file.proofs.Putting.{Putting, putting_fits, over_over}
 use Rattle.system.specs.Heads.{places}
 use Rattle.system.specs.declared.head.Head.{Head}
 use Rattle.file.specs.Layout.{Layout, layout}
 use Rattle.writing.specs.Counts.{count}
-use Rattle.writing.specs.Writing.{record_bytes, terms_bytes, polynomial_bytes, polynomials_bytes, file_bytes, all_in_range}
-use Rattle.writing.proofs.Counting.{count_append, terms_length, all_parts}
+use Rattle.writing.specs.Writing.{record_bytes, terms_bytes, polynomial_bytes, polynomials_bytes, file_bytes, Ready}
+use Rattle.writing.proofs.Counting.{count_append, terms_length, all_split}
 
 -- ---- one record: header, number, terms
 module _ (L : Layout) (k : ℕ) (ys : List ℤ) (t : List ℕ) (at : ℕ) (fit : at + length (polynomial_bytes L k ys) ≤ length t) (n : ℕ) (en : n ≡ count ys) where
@@ -35,26 +35,36 @@ module _ (L : Layout) (k : ℕ) (ys : List ℤ) (t : List ℕ) (at : ℕ) (fit :
         let g : over t2 (at + 5) (terms_bytes L 0 ys) ≡ over t at (bytes16 (1 + 7 * n) ++ (2 ∷ 0 ∷ k ∷ terms_bytes L 0 ys)) = rw five (over_over t at (bytes16 (1 + 7 * n) ++ (2 ∷ 0 ∷ k ∷ [])) (terms_bytes L 0 ys) (omega (arith, record_fits))) in
         (omega arith, e3 ∙ g ∙ ap (λ (z : ℕ). over t at (bytes16 z ++ (2 ∷ 0 ∷ k ∷ terms_bytes L 0 ys))) body_length)
 
--- ---- all records: m - k are left, from base on
-module _ (L : Layout) (xs : List ℤ) (m k base : ℕ) (h : k < m) (room : base + (m - k) * L.size ≡ m * L.size) where
-  one_less : m - k ≡ suc (m - (k + 1))
-  one_less = omega arith
+-- ---- all records: m - k are left
+module _ (L : Layout) (xs : List ℤ) (m k d : ℕ) (h : k < m) (ed : d ≡ L.size) where
+  pub part_fits : length xs ≡ m * L.size → d * k + d ≤ length xs
+  part_fits e = let q : d * (k + 1) ≤ d * m = mul-le-mul_left d (omega arith) in let z : m * L.size ≡ d * m = rw ed (mul_comm m L.size) in omega arith
 
-  product : (m - k) * L.size ≡ L.size + (m - (k + 1)) * L.size
-  product = rw one_less (suc-mul (m - (k + 1)) L.size ∙ omega arith)
-
-  pub next_room : base + L.size + (m - (k + 1)) * L.size ≡ m * L.size
-  next_room = omega (arith, product)
-
-  pub next_record : polynomials_bytes L (m - k) (k + 1) (drop base xs) ≡ polynomial_bytes L (k + 1) (take L.size (drop base xs)) ++ polynomials_bytes L (m - (k + 1)) (k + 1 + 1) (drop (base + L.size) xs)
+module _ (L : Layout) (xs : List ℤ) (m k d base : ℕ) (h : k < m) (ed : d ≡ L.size) (eb : base ≡ d * k) where
+  -- the record of polynomial k + 1 is the next of those that are left
+  pub record_next : {t0 W t : List ℕ} {at o : ℕ} → Putting t0 at W o t (polynomials_bytes L (m - k) (k + 1) (drop (d * k) xs))
+      → Putting t0 at W o t (polynomial_bytes L (k + 1) (take d (drop base xs)) ++ polynomials_bytes L (m - (k + 1)) (k + 1 + 1) (drop (d * (k + 1)) xs))
   unfolding polynomials_bytes
-  next_record = rw (one_less, ← drop-drop L.size base xs) refl
+  record_next i =
+      let less : m - k ≡ suc (m - (k + 1)) = omega arith in
+      let e : L.size + L.size * k ≡ L.size * (k + 1) = omega arith in
+      rw (eb, ed, ← e, add_comm L.size (L.size * k)) (rw (less, ed, drop-drop L.size (L.size * k) xs) at i)
 
-  pub next_all : all_in_range (take ((m - k) * L.size) (drop base xs)) ≡ true
-      → (all_in_range (take L.size (drop base xs)) ≡ true) × (all_in_range (take ((m - (k + 1)) * L.size) (drop (base + L.size) xs)) ≡ true)
-  next_all e =
-      all_parts (take L.size (drop base xs)) (take ((m - (k + 1)) * L.size) (drop (base + L.size) xs))
-      (rw (product, take-add L.size ((m - (k + 1)) * L.size) (drop base xs), drop-drop L.size base xs) at e)
+  pub record_room : {t0 W t : List ℕ} {at o : ℕ} → at + length W ≤ length t0 → Putting t0 at W o t (polynomials_bytes L (m - k) (k + 1) (drop (d * k) xs))
+      → o + length (polynomial_bytes L (k + 1) (take d (drop base xs))) ≤ length t
+  record_room f i =
+      putting_fits _ _ _ f _ _ (polynomial_bytes L (k + 1) (take d (drop base xs))) (polynomials_bytes L (m - (k + 1)) (k + 1 + 1) (drop (d * (k + 1)) xs)) (record_next i)
+
+  -- and its coefficients may be written
+  pub ready_next : Ready L (m * L.size) xs → Ready L L.size (take d (drop base xs))
+  ready_next r =
+      let f : base + d ≤ length xs = omega (arith, part_fits L xs m k d h ed r.long) in
+      let p = all_split base xs r.ranged in
+      record {
+        long = length-take-le d (drop base xs) (omega (arith, length-drop base xs)) ∙ ed;
+        few = r.few;
+        ranged = (all_split d (drop base xs) p.1).0;
+      }
 
 pub last_record : (L : Layout) (xs : List ℤ) (m k : ℕ) → m ≤ k → polynomials_bytes L (m - k) (k + 1) xs ≡ []
 unfolding polynomials_bytes
@@ -78,3 +88,11 @@ module _ (h : Head) (xs : List ℤ) where
   pub file_length : length (file_bytes h xs) ≡ 16 + 5 * h.m + 7 * count (take (places h) xs)
   unfolding places
   file_length = omega (arith, file_parts, polynomials_length (layout h) h.m 1 xs)
+
+-- ---- coefficients behind the last polynomial's are not written
+pub front_bytes : (L : Layout) (j k : ℕ) (xs : List ℤ) → polynomials_bytes L j k (take (j * L.size) xs) ≡ polynomials_bytes L j k xs
+unfolding polynomials_bytes
+front_bytes L zero k xs = refl
+front_bytes L (suc j) k xs =
+    let e : suc j * L.size ≡ L.size + j * L.size = suc-mul j L.size ∙ omega arith in
+    rw (e, take-take L.size (L.size + j * L.size) xs (omega arith), drop-take L.size (j * L.size) xs, front_bytes L j (k + 1) (drop L.size xs)) refl

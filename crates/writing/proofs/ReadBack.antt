@@ -1,4 +1,5 @@
 -- A system that is written reads back as the same head and numbers. Assumes nothing.
+use Rattle.std.specs.Prelude.{Ok}
 use mathlib.Core.Path.{◌≡◌, refl, ◌∙◌, subst}
 use mathlib.Core.Bool.{true}
 use mathlib.Core.List.{List, [], ◌∷◌, ◌++◌, append_assoc}
@@ -13,7 +14,6 @@ use Rattle.file.proofs.Words.{word16_bytes}
 use Rattle.system.specs.Heads.{places, head_ok}
 use Rattle.system.specs.declared.refusal.Refusal.TheVariants.{NotDue, OutOfLimits}
 use Rattle.system.specs.declared.head.Head.{Head}
-use Rattle.system.specs.declared.head.Checked.TheVariants.{Good}
 use Rattle.file.specs.Layout.{Layout, layout}
 use Rattle.file.specs.Records.{length_of}
 use Rattle.file.specs.Terms.{terms, coefficients}
@@ -48,10 +48,10 @@ module _ (L : Layout) (law : Lawful L) (k : ℕ) (ys : List ℤ) (tail : List �
         fitting = (fits_says (polynomial_shape L.size) (length_of r)).passes (rw its_length ((omega arith, none), few));
       }
 
-  its_terms : (o : ℕ) → terms L (term_count r) o 0 (drop 5 r) ≡ Good
+  its_terms : (o : ℕ) → terms L (term_count r) o 0 (drop 5 r) ≡ Ok tt
   its_terms o = rw its_count (terms_written L law ys 0 o 0 tail (omega arith) (omega arith) all)
 
-  pub its_good : (o : ℕ) → polynomial L k o r ≡ Good
+  pub its_good : (o : ℕ) → polynomial L k o r ≡ Ok tt
   unfolding polynomial
   its_good o = chain (due_good 2 (polynomial_shape L.size) o r its_header) (chain (pass NotDue o (eq-eqb k k refl)) (its_terms (o + 5)))
 
@@ -68,7 +68,7 @@ module _ (L : Layout) (law : Lawful L) where
   abbrev bytes : ℕ → ℕ → List ℤ → List ℕ
   bytes j k xs = polynomials_bytes L j k xs ++ record_bytes 3 []
 
-  pub polynomials_written : (j k o : ℕ) (xs : List ℤ) → length xs ≡ j * L.size → all_in_range xs ≡ true → (polynomials L j k o (bytes j k xs) ≡ Good) × (numbers_of L j (bytes j k xs) ≡ xs)
+  pub polynomials_written : (j k o : ℕ) (xs : List ℤ) → length xs ≡ j * L.size → all_in_range xs ≡ true → (polynomials L j k o (bytes j k xs) ≡ Ok tt) × (numbers_of L j (bytes j k xs) ≡ xs)
   unfolding ending polynomials polynomials_bytes numbers_of
   polynomials_written zero k o [] e a = (chain (due_good 3 end_shape o (record_bytes 3 []) (record { present = omega arith; kind_is = refl; fitting = refl })) refl, refl)
   polynomials_written zero k o (x ∷ xs) e a = absurd (let z : ⊥ = omega (arith, zero-mul L.size) in z)
@@ -91,7 +91,7 @@ pub record System (h : Head) (xs : List ℤ) : Type 0 where
   pub ranged : all_in_range xs ≡ true
 
 module _ (h : Head) (xs : List ℤ) (s : System h xs) where
-  pub checked_written : checked (file_bytes h xs) ≡ Good
+  pub checked_written : checked (file_bytes h xs) ≡ Ok tt
   unfolding checked file_bytes places
   checked_written =
       chain (due_good 1 head_shape 0 _ (record { present = omega arith; kind_is = refl; fitting = refl }))

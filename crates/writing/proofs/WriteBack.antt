@@ -1,4 +1,5 @@
 -- A file that is in order is, written again, the same bytes; and what it says may be written. Assumes nothing.
+use Rattle.std.specs.Prelude.{Ok}
 use mathlib.Core.Path.{◌≡◌, refl, sym, ap, ◌∙◌, subst}
 use mathlib.Core.Bool.{true}
 use mathlib.Core.List.{List, [], ◌∷◌, ◌++◌, append_assoc}
@@ -15,7 +16,6 @@ use Rattle.file.specs.Bytes.{byte, Bytes, bytes32}
 use Rattle.file.proofs.Words.{word16_small, bytes32_back, bytes_drop, take4, take5, take7, take12}
 use Rattle.system.specs.Heads.{places}
 use Rattle.system.specs.declared.refusal.Refusal.TheVariants.{ExtraBytes}
-use Rattle.system.specs.declared.head.Checked.TheVariants.{Good}
 use Rattle.system.specs.Chain.{test}
 use Rattle.file.specs.Layout.{Layout, layout}
 use Rattle.file.specs.Records.{length_of, due}
@@ -59,7 +59,7 @@ module _ (L : Layout) (law : Lawful L) where
   lower : {next : ℕ} {r : List ℕ} → InOrder L next r → (n : ℕ) → n ≤ place_of L r → InOrder L n r
   lower g n h = record { inside = g.inside; ranged = g.ranged; nonzero = g.nonzero; rising = h }
 
-  pub terms_back : (n t p o : ℕ) (r : List ℕ) → Bytes r → terms L t o p r ≡ Good → p + n ≡ L.size → 7 * t ≤ length r → Back L p t r (coefficients L n t p r)
+  pub terms_back : (n t p o : ℕ) (r : List ℕ) → Bytes r → terms L t o p r ≡ Ok tt → p + n ≡ L.size → 7 * t ≤ length r → Back L p t r (coefficients L n t p r)
   unfolding coefficients terms terms_bytes count all_in_range
   terms_back zero zero p o r b e s h = record { bytes = refl; number = refl; ranged = refl }
   terms_back zero (suc t) p o r b e s h =
@@ -71,7 +71,7 @@ module _ (L : Layout) (law : Lawful L) where
       (λ f. terms_back n (suc t) (p + 1) o r b (good_terms L t o (p + 1) r (lower g.0 (p + 1) (far f)) g.1) (omega arith) h)
       (λ q. terms_back n t (p + 1) (o + 7) (drop 7 r) (bytes_drop 7 b) (rw q at g.1) (omega arith) (rw (length-drop 7 r) (omega arith)))
     where
-      g : InOrder L p r × (terms L t (o + 7) (place_of L r + 1) (drop 7 r) ≡ Good)
+      g : InOrder L p r × (terms L t (o + 7) (place_of L r + 1) (drop 7 r) ≡ Ok tt)
       g = terms_good L t o p r e
 
       far : (place_of L r ≡ p → ⊥) → p + 1 ≤ place_of L r
@@ -118,7 +118,7 @@ module _ (L : Layout) (law : Lawful L) where
     pub long : length (numbers_of L j r) ≡ j * L.size
     pub ranged : all_in_range (numbers_of L j r) ≡ true
 
-  last_record : (o : ℕ) (r : List ℕ) → Bytes r → due 3 end_shape o r ≡ Good → length r ≤ 4 → record_bytes 3 [] ≡ r
+  last_record : (o : ℕ) (r : List ℕ) → Bytes r → due 3 end_shape o r ≡ Ok tt → length r ≤ 4 → record_bytes 3 [] ≡ r
   last_record o r b d l =
       let w = due_parts 3 end_shape o r d in
       let f = ((fits_says end_shape (length_of r)).fact w.fitting).1 in
@@ -126,7 +126,7 @@ module _ (L : Layout) (law : Lawful L) where
       let three = word16_small r 2 3 b w.kind_is (omega arith) in
       sym (sym (take_all 4 r l) ∙ take4 r (omega (arith, w.present)) ∙ rw (none.0, none.1, three.0, three.1) refl)
 
-  pub polynomials_back : (j k o : ℕ) (r : List ℕ) → Bytes r → polynomials L j k o r ≡ Good → Whole j k r
+  pub polynomials_back : (j k o : ℕ) (r : List ℕ) → Bytes r → polynomials L j k o r ≡ Ok tt → Whole j k r
   unfolding ending polynomials polynomials_bytes numbers_of all_in_range
   polynomials_back zero k o r b e =
       let a = parts (due 3 end_shape o r) (test (leb (length r) 4) ExtraBytes (o + 4)) e in
@@ -149,7 +149,7 @@ module _ (L : Layout) (law : Lawful L) where
       }
 
 -- ---- the whole file
-module _ (s : List ℕ) (b : Bytes s) (e : checked s ≡ Good) where
+module _ (s : List ℕ) (b : Bytes s) (e : checked s ≡ Ok tt) where
   head_back : record_bytes 1 (head_body (head_of s)) ≡ take 12 s
   head_back =
       let d = (in_file s e).header in

@@ -1,17 +1,15 @@
 -- Writing a system file (01, "The system file", "Refusal numbers"): from a head and coefficients to bytes, or to the first refusal in 01's order; and the
 -- lent bytes afterwards. Definitions only.
-use Rattle.std.specs.Prelude.{ℕ, zero, suc, ◌+◌, Bool, true, cond, ◌&&◌, List, [], ◌∷◌, ◌++◌, leb, ℤ, length, take, drop}
+use Rattle.std.specs.Prelude.{ℕ, zero, suc, ◌+◌, ◌≤◌, ◌≡◌, Bool, true, cond, ◌&&◌, List, [], ◌∷◌, ◌++◌, leb, ℤ, length, take, drop, Result, Ok, Err, ⊤}
 use Rattle.bernstein.specs.Numbers.{Index}
 use Rattle.file.specs.Bytes.{bytes16, bytes32}
 use Rattle.system.specs.Heads.{places, head_ok}
 use Rattle.system.specs.declared.refusal.Refusal.{Refusal}
 use Rattle.system.specs.declared.head.Head.{Head}
-use Rattle.system.specs.declared.head.Checked.{Checked}
-use Rattle.system.specs.declared.head.Checked.TheVariants.{Good, Refused}
+use Rattle.system.specs.declared.refusal.Refused.{Refused}
 use Rattle.system.specs.Chain.{test, ◌then◌}
 use Rattle.file.specs.Layout.{Layout, layout}
 use Rattle.file.specs.Terms.{in_range, is_zero}
-use Rattle.writing.specs.declared.Written.{Written}
 
 -- "two-byte length of the body, two-byte kind, body"
 abbrev pub record_bytes : ℕ → List ℕ → List ℕ
@@ -50,8 +48,14 @@ unfoldable pub all_in_range : List ℤ → Bool
 all_in_range [] = true
 all_in_range (x ∷ xs) = in_range x && all_in_range xs
 
+-- n coefficients that may be written: of few places, and each in the range
+pub record Ready (L : Layout) (n : ℕ) (xs : List ℤ) : Type 0 where
+  pub long : length xs ≡ n
+  pub few : L.size ≤ 64
+  pub ranged : all_in_range xs ≡ true
+
 -- ---- into lent bytes: "Start and write: 4, 9 for short coefficients, 6, 9 for a short target"
-unfoldable pub writable : Head → List ℤ → ℕ → Checked
+unfoldable pub writable : Head → List ℤ → ℕ → Result ⊤ Refused
 writable h xs room =
     test (head_ok h) Refusal.OutOfLimits 0
     then test (leb (places h) (length xs)) Refusal.TooShort 0
@@ -59,10 +63,10 @@ writable h xs room =
     then test (leb (length (file_bytes h xs)) room) Refusal.TooShort 0
 
 -- a refusal changes nothing, and nothing beyond the file's bytes is changed
-abbrev pub written : Checked → Head → List ℤ → List ℕ → Written × List ℕ
-written Good h xs t = (Written.Length (length (file_bytes h xs)), file_bytes h xs ++ drop (length (file_bytes h xs)) t)
-written (Refused x) h xs t = (Written.Refused x, t)
+abbrev pub written : Result ⊤ Refused → Head → List ℤ → List ℕ → Result ℕ Refused × List ℕ
+written (Ok u) h xs t = (Ok (length (file_bytes h xs)), file_bytes h xs ++ drop (length (file_bytes h xs)) t)
+written (Err x) h xs t = (Err x, t)
 
 -- the answer, and the lent bytes afterwards
-unfoldable pub writes : Head → List ℤ → List ℕ → Written × List ℕ
+unfoldable pub writes : Head → List ℤ → List ℕ → Result ℕ Refused × List ℕ
 writes h xs t = written (writable h xs (length t)) h xs t

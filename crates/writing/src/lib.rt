@@ -8,48 +8,33 @@ mod polynomials;
 ghost use Rattle.std.specs.Prelude.{◌≡◌};
 ghost use Rattle.writing.specs.Writing.{writes};
 
-use system::head::{Checked, Head};
+use counts::{all_in_range, count};
+use file::parser::Kind;
+use pieces::{head_record, header, put};
+use polynomials::put_polynomials;
+use system::head::Head;
 use system::refusal::{Refusal, Refused};
 
-#[derive(Clone, Copy)]
-pub enum Written {
-    Length(usize),
-    Refused(Refused),
-}
-
-// Writes a system into lent bytes. A refusal changes none of them.
-pub fn write(h: Head, coefficients: &[i64], out: &mut [u8]) -> Written
+// Writes a system into lent bytes, and answers how many they are. A refusal changes none of them.
+#[tactic(auto, unfolding(crate::specs::Writing::writes, crate::specs::Writing::writable), using(crate::proofs::Joining::file_length))]
+pub fn write(h: Head, coefficients: &[i64], out: &mut [u8]) -> Result<usize, Refused>
     ensures { (result ≡ (writes h coefficients.now out.old).0) × (out.new ≡ (writes h coefficients.now out.old).1) }
 {
-    let limits = h.check();
-    match limits {
-        Checked::Good => {}
-        Checked::Refused(x) => {
-            return Written::Refused(x);
-        }
-    }
+    h.check()?;
     let n = h.places();
     if coefficients.len() < n {
-        return Written::Refused(Refused {
-            why: Refusal::TooShort,
-            at: 0,
-        });
+        return Err(Refusal::TooShort.at_start());
     }
-    if !counts::all_within(coefficients, n) {
-        return Written::Refused(Refused {
-            why: Refusal::BadCoefficient,
-            at: 0,
-        });
+    let xs = &coefficients[..n];
+    if !all_in_range(xs) {
+        return Err(Refusal::BadCoefficient.at_start());
     }
-    let len = 16 + 5 * file::bytes::wide(h.m) + 7 * counts::count_part(coefficients, 0, n);
+    let len = 16 + 5 * usize::from(h.m) + 7 * count(xs);
     if out.len() < len {
-        return Written::Refused(Refused {
-            why: Refusal::TooShort,
-            at: 0,
-        });
+        return Err(Refusal::TooShort.at_start());
     }
-    pieces::put_head(out, h);
-    let o = polynomials::put_polynomials(out, h, coefficients);
-    pieces::put_header(out, o, 0, 3);
-    Written::Length(len)
+    put(out, 0, &head_record(h));
+    let last = put_polynomials(out, h, xs);
+    put(out, last, &header(0, Kind::End));
+    Ok(len)
 }

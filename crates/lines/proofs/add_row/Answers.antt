@@ -1,11 +1,12 @@
--- `add_row` meets its contract: both sums fit, and one or two numbers are stored. Assumes nothing.
-use mathlib.Core.Path.{◌≡◌}
-use native.Mathlib.Omega.{arith}
-use Rattle.lines.proofs.Rows.{sum_one, sum_two}
+-- `add_row` meets its contract: the sums are made, and then stored. Assumes nothing.
+use Prim.Native.Nat.{◌+◌}
+use lib.IntN.{◌+ℤ◌}
+use Rattle.std.proofs.Common.{rules}
+use Rattle.whole.proofs.Machine.{sum_is}
+use Rattle.lines.specs.Lines.{at}
+use Rattle.lines.proofs.Made.{made, row_is}
 use Rattle.lines.proofs.add_row.Goals as goal
 
-pub returns-then-w-eq2 : goal.returns-then-w-eq2
-returns-then-w-eq2 c = let s = c in sum_two s.requires.0 s.requires.1 (let e : s.args.w ≡ 2 = omega arith in e)
-
-pub returns-else-w-eq2 : goal.returns-else-w-eq2
-returns-else-w-eq2 c = let s = c in sum_one s.requires.0 s.requires.1 (let e : s.args.w ≡ 1 = omega (arith, s.requires.0.few.some, s.requires.0.few.most) in e)
+pub returns : goal.returns
+returns g c =
+    row_is (λ f h. made _ (λ f. at c.args.s.now (c.args.a + f) +ℤ at c.args.s.now (c.args.b + f)) g.row.W _ (λ i y q m k. search (rules, sum_is (c.requires.0.small i m) (c.requires.1.small i m))) _ c.from_fn-row.ensures.items f h _) c.put_row.ensures

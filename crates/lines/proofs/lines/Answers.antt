@@ -7,41 +7,41 @@ use Rattle.lines.proofs.Stages.{no_stage, block, entries_below, sums_below, foot
 use Rattle.lines.proofs.lines.Goals as goal
 
 pub sums-requires : goal.sums-requires
-sums-requires c =
+sums-requires g c =
     let a = c in let s = a in let t = a.loop-j.invariant in
-    let m : a.loop-j.j ≤ s.args.n = omega arith in
-    (block s.requires.0 s.requires.1 a.loop-j.j m t.size, entries_below s.requires.0 s.requires.1 m t, sums_below s.requires.0 s.requires.1 m t)
+    let m : a.loop-j.j ≤ g.row.N = omega arith in
+    (block s.requires a.loop-j.j m t.size, entries_below s.requires m t, sums_below s.requires m t)
 
 pub overflow_mul-j : goal.overflow_mul-j
-overflow_mul-j c =
-    let a = c in let s = a in let m : a.loop-j.j ≤ s.args.n = omega arith in
-    omega (arith, row_le s.args.inner m, s.requires.1.room.fits lower)
+overflow_mul-j g c =
+    let a = c in let s = a in let m : a.loop-j.j ≤ g.row.N = omega arith in
+    omega (arith, row_le s.args.inner m, s.requires.room.fits lower)
 
 pub overflow_add-lo : goal.overflow_add-lo
-overflow_add-lo c =
-    let a = c in let s = a in let m : a.loop-j.j ≤ s.args.n = omega arith in
-    omega (arith, row_le s.args.inner m, s.requires.1.room.fits lower)
+overflow_add-lo g c =
+    let a = c in let s = a in let m : a.loop-j.j ≤ g.row.N = omega arith in
+    omega (arith, row_le s.args.inner m, s.requires.room.fits lower)
 
 pub scale_row-requires : goal.scale_row-requires
-scale_row-requires c =
+scale_row-requires g c =
     let a = c in let s = a in let t = a.loop-j.invariant in
-    let m : a.loop-j.j ≤ s.args.n = omega arith in let b = c.sums.ensures in
-    (omega (arith, s.requires.1.degree), omega (arith, row_le s.args.inner m, s.requires.1.room.fits lower, t.size, b.size), foot_row s.requires.0 s.requires.1 m t b)
+    let m : a.loop-j.j ≤ g.row.N = omega arith in let b = c.sums.ensures in
+    (omega (arith, s.requires.degree), omega (arith, row_le s.args.inner m, s.requires.room.fits lower, t.size, b.size), foot_row s.requires m t b)
 
 pub loop-j-preserved : goal.loop-j-preserved
-loop-j-preserved c =
+loop-j-preserved g c =
     let a = c in let s = a in
-    stage s.requires.0 s.requires.1 (omega arith) a.loop-j.invariant c.sums.ensures c.scale_row.ensures
+    stage s.requires (omega arith) a.loop-j.invariant c.sums.ensures c.scale_row.ensures
 
 pub raise-requires : goal.raise-requires
-raise-requires c =
+raise-requires g c =
     let a = c in let s = a in
-    (s.requires.1.degree, block s.requires.0 s.requires.1 s.args.n (omega arith) a.loop-j.invariant.size, raised_below s.requires.0 s.requires.1 (omega arith) a.loop-j.invariant)
+    (s.requires.degree, block s.requires g.row.N (omega arith) a.loop-j.invariant.size, raised_below s.requires (omega arith) a.loop-j.invariant)
 
 pub returns : goal.returns
-returns c =
+returns g c =
     let a = c in let s = a in
-    all_stages s.requires.0 s.requires.1 (omega arith) a.loop-j.invariant c.raise.ensures
+    all_stages s.requires (omega arith) a.loop-j.invariant c.raise.ensures
 
 pub loop-j-init : goal.loop-j-init
-loop-j-init c = no_stage
+loop-j-init g c = no_stage

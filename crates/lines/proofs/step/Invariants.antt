@@ -5,7 +5,4 @@ use Rattle.lines.proofs.Turns.{Turning}
 use Rattle.lines.proofs.step.Given as goal
 
 abbrev pub invariant-loop-j : goal.invariant-loop-j
-invariant-loop-j l = (l.k ≤ l.j) × (l.j ≤ l.n) × Turning (stepped l.k) (λ i. l.j < i) 1 l.first l.inner l.n l.initial.s l.s
-
-abbrev pub decreases-loop-j : goal.decreases-loop-j
-decreases-loop-j l = l.j
+invariant-loop-j l = (l.k ≤ l.j) × Turning (stepped l.k) (λ i. l.j < i) 1 l.first l.inner l.n l.initial.s l.s

@@ -9,5 +9,6 @@ use Rattle.boxes.proofs.middle.over.Goals as goal
 pub returns : goal.returns
 returns c =
     let z = c in
-    quotient_is z.args.m c.power.result z.args.s (omega arith) (omega (arith, z.requires.0)) z.requires.1
-    (c.power.ensures ∙ ap (λ (k : ℕ). 2 ^ k) (add-one z.args.s))
+    rw (c.from.ensures, c.from-2.ensures)
+    (quotient_is z.args.m c.power.result z.args.s (omega arith) (omega (arith, z.requires.0)) z.requires.1
+    (c.power.ensures ∙ ap (λ (k : ℕ). 2 ^ k) (add-one z.args.s)))

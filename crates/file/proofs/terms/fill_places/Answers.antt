@@ -1,29 +1,33 @@
--- `terms::fill_places` meets its contract: `Placed` holds at each turn. Assumes nothing.
-use mathlib.Core.Path.{◌∙◌}
-use mathlib.Core.List.{append_assoc}
-use Prim.Native.Nat.{◌+◌}
+-- `terms::fill_places` meets its contract: at each turn one place more is filled. Assumes nothing.
+use mathlib.Core.Path.{◌≡◌, sym, ap, ◌∙◌}
+use mathlib.Core.List.{List}
+use Prim.Native.Nat.{ℕ}
 use native.Mathlib.Omega.{arith}
-use borrow.Author.Rules.{rules}
-use lib.ListN.{take, drop}
-use Rattle.file.proofs.Filling.{placed_turn, placed_over}
-use Rattle.file.specs.Layout.{layout}
-use Rattle.file.specs.Terms.{coefficients}
+use lib.ListN.{drop, length-drop}
 use Rattle.whole.proofs.Machine.{back}
+use Rattle.file.proofs.Filling.{found_turn, none_turn, here_some, filled_places}
+use Rattle.std.proofs.lemmas.List.{take_rest}
+use Rattle.file.specs.Layout.{layout}
 use Rattle.file.proofs.terms.fill_places.Goals as goal
+use Rattle.file.proofs.terms.fill_places.Goals.{then-here, else-here}
 
 pub loop-p-preserved : goal.loop-p-preserved
 loop-p-preserved c =
-    let a = c.args in
+    let L = layout c.args.h in
     let l = c.loop-p in
-    let f = c.found_at-x in
-    rw (back {a = f.result.value} (search rules))
-    (placed_turn (layout a.h) a.file.now _ a.out.now (layout a.h).size a.base c.requires.1 l.p l.o l.left l.out f.result.value f.result.at f.result.left
-    l.invariant (omega arith) f.ensures.0 f.ensures.1.0 f.ensures.1.1)
+    elim c.if-here.branch [
+      | then-here w ↦ (
+          let r : c.if-here.rest.now ≡ drop 7 l.rest.now = ap (λ (b : denote.Bor.Bor (List ℕ)). b.now) w.rest-is ∙ take_rest l.rest.now 7 in
+          rw (w.places-is, r, w.left-is) (
+            omega (arith, length-drop 7 l.rest.now, here_some L l.left l.p l.rest.now (sym w.if-here.ensures), l.invariant.0),
+            found_turn L _ l.places L.size l.p l.left l.rest.now (omega arith) (omega arith) l.invariant.1 (sym w.if-here.ensures) _
+                (back w.value_of.type_inv ∙ w.value_of.ensures),
+          ))
+      | else-here w ↦ rw (w.places-is, w.rest-is, w.left-is) (
+        l.invariant.0,
+        none_turn L _ l.places L.size l.p l.left l.rest.now (omega arith) (omega arith) l.invariant.1 (sym w.if-here.ensures),
+      )
+    ]
 
 pub returns : goal.returns
-returns c =
-    let a = c.args in
-    let l = c.loop-p in
-    placed_over (layout a.h) a.file.now _ a.out.now (layout a.h).size a.base c.requires.1 l.p l.o l.left l.out l.invariant (omega arith)
-    ∙ append_assoc (take a.base a.out.now) (coefficients (layout a.h) (layout a.h).size a.t 0 (drop a.at a.file.now))
-    (drop (a.base + (layout a.h).size) a.out.now)
+returns c = filled_places (layout c.args.h) _ c.loop-p.places (layout c.args.h).size c.loop-p.p c.loop-p.left c.loop-p.rest.now (omega arith) (omega arith) c.loop-p.invariant.1

@@ -3,8 +3,16 @@ use mathlib.Core.Path.{refl, sym, ◌∙◌}
 use Rattle.malachirp.proofs.Unchanged.{run_refused}
 use Rattle.malachirp.proofs.running.malachirp_run.Goals as goal
 
-pub returns-in-Refused : goal.returns-in-Refused
-returns-in-Refused c =
-    let x = sym c.run-a.ensures.0 ∙ c.in-Refused.is in
-    let same = run_refused _ _ c.args.list.now _ _ _ x in
-    rw (sym c.head_from.ensures, sym c.state_from.ensures, x, c.run-a.ensures.1.1 ∙ same.0, c.run-a.ensures.1.0 ∙ same.1, c.refuse.ensures.0, c.refuse.ensures.1) refl
+pub returns-in-Err : goal.returns-in-Err
+returns-in-Err c =
+    let x = sym c.run.ensures.0 ∙ c.in-Err.is in
+    let same = run_refused _ _ c.args.list.now _ _ c.args.budget _ x in
+    rw (
+      sym c.from.ensures,
+      sym c.from-2.ensures,
+      same.1,
+      c.run.ensures.1.1 ∙ same.0.0,
+      c.run.ensures.1.0 ∙ same.0.1,
+      c.refuse.ensures.0,
+      c.refuse.ensures.1,
+    ) refl

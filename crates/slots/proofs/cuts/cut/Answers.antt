@@ -35,25 +35,25 @@ numbers_long h two e = simp (length-drop, length-take) (omega (arith, e))
 pub box_of-b-requires : goal.box_of-b-requires
 box_of-b-requires c = (omega arith, front_spans c.args.h c.args.two.now c.requires.0)
 
-pub half_of-requires : goal.half_of-requires
-half_of-requires c = let k = cuttable c.args.h c.args.two.now c.box_of-b.result c.requires.0 c.box_of-b.ensures c.args.r c.requires.2 in (omega arith, k.0, k.1)
+pub half_in-requires : goal.half_in-requires
+half_in-requires c = let k = cuttable c.args.h c.args.two.now c.box_of-b.result c.requires.0 c.box_of-b.ensures c.args.r c.requires.2 in (k.0, k.1)
 
-pub half_of-requires-2 : goal.half_of-requires-2
-half_of-requires-2 c = let k = cuttable c.args.h c.args.two.now c.box_of-b.result c.requires.0 c.box_of-b.ensures c.args.r c.requires.2 in (omega arith, k.0, k.1)
+pub half_in-requires-2 : goal.half_in-requires-2
+half_in-requires-2 c = let k = cuttable c.args.h c.args.two.now c.box_of-b.result c.requires.0 c.box_of-b.ensures c.args.r c.requires.2 in (k.0, k.1)
 
 pub blocks-requires : goal.blocks-requires
 blocks-requires c =
     let s = c.args in
     let b = box_is s.h s.two.now c.box_of-b.result c.requires.0 c.box_of-b.ensures in
-    let y = laid s.h (direction s.r) s.two.now c.requires.1 (half_value upper (direction s.r) c.half_of-2.ensures b) (half_value lower (direction s.r) c.half_of.ensures b)
+    let y = laid s.h (direction s.r) s.two.now c.requires.1 (half_value upper (direction s.r) c.half_in-2.ensures b) (half_value lower (direction s.r) c.half_in.ensures b)
     (rw c.width-w.ensures at c.put_box.ensures) (rw c.width-w.ensures at c.put_box-2.ensures) in
-    cut_ready s.h (direction s.r) c.width-w.ensures c.blocks_in.ensures c.stride_in.ensures c.degree_in.ensures
+    cut_ready s.h (direction s.r) c.width-w.ensures c.along-along.ensures.blocks c.along-along.ensures.stride c.along-along.ensures.degree
     c.requires.0.limits (numbers_long s.h s.two.now c.requires.1) c.requires.3 y
 
 pub returns : goal.returns
 returns c =
     let s = c.args in
     let b = box_is s.h s.two.now c.box_of-b.result c.requires.0 c.box_of-b.ensures in
-    let y = laid s.h (direction s.r) s.two.now c.requires.1 (half_value upper (direction s.r) c.half_of-2.ensures b) (half_value lower (direction s.r) c.half_of.ensures b)
+    let y = laid s.h (direction s.r) s.two.now c.requires.1 (half_value upper (direction s.r) c.half_in-2.ensures b) (half_value lower (direction s.r) c.half_in.ensures b)
     (rw c.width-w.ensures at c.put_box.ensures) (rw c.width-w.ensures at c.put_box-2.ensures) in
-    cut_halves s.h (direction s.r) y (as_blocks s.h (direction s.r) c.width-w.ensures c.blocks_in.ensures c.stride_in.ensures c.degree_in.ensures c.blocks-2.ensures)
+    cut_halves s.h (direction s.r) y (as_blocks s.h (direction s.r) c.width-w.ensures c.along-along.ensures.blocks c.along-along.ensures.stride c.along-along.ensures.degree c.blocks-2.ensures)

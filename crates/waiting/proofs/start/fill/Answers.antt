@@ -7,5 +7,5 @@ returns c =
     let s = c in
     let w = c.width-w in
     let d = c.depth in
-    filled s.args.h s.args.coefficients.now s.args.store.now w.ensures d.ensures s.requires.3 c.start.new.slot
+    filled s.args.system.now.head s.args.system.now.coefficients.now s.args.store.now w.ensures d.ensures s.requires c.start.new.slot
     c.start.ensures c.clear.new.slot c.clear.ensures

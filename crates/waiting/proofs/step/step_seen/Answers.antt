@@ -3,41 +3,29 @@ use mathlib.Core.Path.{◌∙◌}
 use Rattle.waiting.proofs.Becoming.{stop_cursor, stop_store, stop_seen, may_make, made, visit_seen}
 use Rattle.waiting.proofs.step.step_seen.Goals as goal
 
-pub overflow_sub-s : goal.overflow_sub-s
-overflow_sub-s c =
-    let s = c in
-    let b = c in
-    (may_make s.args.h s.args.store.now s.args.c b.before_visit-d.ensures c.in-Visit.is s.requires).waits
+pub overflow_sub-c : goal.overflow_sub-c
+overflow_sub-c c = let a = c.args in (may_make a.h a.store.now a.c c.before_visit.ensures c.in-Ok.is c.requires).waits
 
-pub box_at-b-requires : goal.box_at-b-requires
-box_at-b-requires c =
-    let s = c in
-    let b = c in
-    let m = may_make s.args.h s.args.store.now s.args.c b.before_visit-d.ensures c.in-Visit.is s.requires in
+pub box_at-at-requires : goal.box_at-at-requires
+box_at-at-requires c =
+    let a = c.args in
+    let m = may_make a.h a.store.now a.c c.before_visit.ensures c.in-Ok.is c.requires in
     (m.inside, m.fits)
 
-pub make-cursor-requires : goal.make-cursor-requires
-make-cursor-requires c =
-    let s = c in
-    let b = c in
-    may_make s.args.h s.args.store.now s.args.c b.before_visit-d.ensures c.in-Visit.is s.requires
+pub make-requires : goal.make-requires
+make-requires c = let a = c.args in may_make a.h a.store.now a.c c.before_visit.ensures c.in-Ok.is c.requires
 
-pub returns-in-Stop : goal.returns-in-Stop
-returns-in-Stop c =
-    let s = c in
-    let b = c in
-    let e = b.before_visit-d.ensures in
-    let f = c.in-Stop.is in (
-      c.not_made.ensures.0 ∙ stop_cursor s.args.h s.args.store.now s.args.c e f,
-      c.not_made.ensures.1 ∙ stop_seen s.args.h s.args.store.now s.args.c e f,
-      stop_store s.args.h s.args.store.now s.args.c e f,
-    )
+pub returns-in-Ok : goal.returns-in-Ok
+returns-in-Ok c =
+    let a = c.args in
+    let e = c.before_visit.ensures in
+    let f = c.in-Ok.is in
+    let m = made a.h a.store.now a.c e f c.make.ensures in
+    (m.0, rw c.box_at-at.ensures (visit_seen a.h a.store.now a.c e f), m.1)
 
-pub returns-in-Visit : goal.returns-in-Visit
-returns-in-Visit c =
-    let s = c in
-    let b = c in
-    let e = b.before_visit-d.ensures in
-    let f = c.in-Visit.is in
-    let m = made s.args.h s.args.store.now s.args.c e f c.make-cursor.ensures in
-    (m.0, rw c.box_at-b.ensures (visit_seen s.args.h s.args.store.now s.args.c e f), m.1)
+pub returns-in-Err : goal.returns-in-Err
+returns-in-Err c =
+    let a = c.args in
+    let e = c.before_visit.ensures in
+    let f = c.in-Err.is in
+    (c.halt.ensures ∙ stop_cursor a.h a.store.now a.c e f, stop_seen a.h a.store.now a.c e f, stop_store a.h a.store.now a.c e f)

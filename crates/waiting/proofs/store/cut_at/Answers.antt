@@ -1,5 +1,6 @@
 -- `cut_at` meets its contract. Assumes nothing.
 use mathlib.Core.List.{◌++◌, List}
+use Prim.Native.Nat.{ℕ, ◌*◌}
 use mathlib.Core.Path.{ap, ◌∙◌}
 use native.Mathlib.Omega.{arith}
 use lib.IntN.{ℤ}
@@ -15,12 +16,12 @@ use Rattle.waiting.proofs.store.cut_at.Goals as goal
 pub returns : goal.returns
 returns c =
     let s = c in
-    let a = c.start_of-start in
     let w = c.width-w in
     let h = s.args.h in
     let r = s.args.r in
-    let e = two_first s.args.p a.ensures w.ensures s.args.store.now in
-    two_back s.args.p a.ensures w.ensures s.args.store.now (half_slot h upper (direction r) (slot (width h) s.args.p s.args.store.now))
+    let a = ap (λ (i : ℕ). s.args.p * i) w.ensures in
+    let e = two_first s.args.p a w.ensures s.args.store.now in
+    two_back s.args.p a w.ensures s.args.store.now (half_slot h upper (direction r) (slot (width h) s.args.p s.args.store.now))
     (half_slot h lower (direction r) (slot (width h) s.args.p s.args.store.now)) c.cut.new.two
     (c.cut.ensures ∙ ap (λ (l : List ℤ). half_slot h upper (direction r) l ++ half_slot h lower (direction r) l) e)
-    (half_slot_length h upper (direction r) _) (half_slot_length h lower (direction r) _) (omega (arith, s.requires.0, a.ensures, w.ensures))
+    (half_slot_length h upper (direction r) _) (half_slot_length h lower (direction r) _) (omega (arith, s.requires.0, a, w.ensures))

@@ -7,4 +7,4 @@ use Rattle.waiting.proofs.store.long_enough.Goals as goal
 pub overflow_mul-result : goal.overflow_mul-result
 overflow_mul-result c =
     let h = c.args.h in
-    omega (arith, needed_is h c.depth.ensures c.width.ensures, slots_high h c.requires)
+    omega (arith, needed_is h.head c.depth.ensures c.width.ensures, slots_high h.head h.limits)

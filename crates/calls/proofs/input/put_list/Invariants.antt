@@ -1,6 +1,0 @@
--- `input::put_list` is safe and ends. Assumes nothing.
-use Rattle.std.proofs.Common.{length, ◌-◌}
-use Rattle.calls.proofs.input.put_list.Given as goal
-
-abbrev pub decreases-loop-i : goal.decreases-loop-i
-decreases-loop-i l = length l.initial.to - l.i
