@@ -1,5 +1,6 @@
 // The list of kept boxes that the caller lends: as records, or as numbers, seven to a record: s1, k1, s2, k2, s3, k3, mark. Numbers behind the last whole
-// record are no part of it, and they are one flat slice, as C lends it. A place past the end stores nothing and reads as a record of zeros, so a caller needs no test.
+// record are no part of it, and they are one flat slice, as C lends it.
+// A place past the end stores nothing and reads as a record of zeros, so a caller needs no test.
 ghost use Rattle.std.specs.Prelude.{◌≡◌, List, length, set, get_or};
 ghost use Rattle.waiting.specs.Steps.{nothing_kept, put_in};
 ghost use Rattle.waiting.specs.declared.cursor.Kept.{Kept};
@@ -56,6 +57,7 @@ impl ListItem for u16 {
 
     fn put(list: &mut [u16], to: usize, kept: Kept) {
         if to < list.len() / 7 {
+            // as for C and in a slot, and in each of another type, so each names the six numbers
             let at = to * 7;
             list[at] = kept.at.s1.into();
             list[at + 1] = kept.at.k1;

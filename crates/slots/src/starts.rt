@@ -63,7 +63,7 @@ impl Table {
 }
 
 impl Startable<'_> {
-    // The weight of the number at place p of a polynomial.
+    // The weight of the number at place p of a polynomial. The writer takes a place apart too: one function for both would have a contract longer than it.
     fn weight_at(&self, table: &Table, p: usize) -> u32
         requires { p < size (degrees self.now.head) }
         ensures { (result ≡ weight self.now.head.n1 (index (degrees self.now.head) p).x₁ * weight self.now.head.n2 (index (degrees self.now.head) p).x₂ * weight self.now.head.n3 (index (degrees self.now.head) p).x₃) × (result ≤ 216000) }

@@ -36,7 +36,7 @@ fn range_of(h: Head, p: usize) -> Range<usize>
 }
 
 // ---- the tests of a slot
-// A count of cuts, without its sign.
+// A count of cuts, without its sign, of which nothing is known yet: what slots reads a count by asks that it is not below zero.
 fn count(slot: &[i64], i: usize) -> u64
     requires { i < length slot.now }
     ensures { result ≡ nat_abs (at slot.now i) }

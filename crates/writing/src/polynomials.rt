@@ -12,7 +12,7 @@ use file::parser::Kind;
 use file::terms::is_zero;
 use system::head::Head;
 
-// The term of place p, unless it is zero.
+// The term of place p, unless it is zero. A start takes a place apart too: three quotients, of which a contract would be longer.
 fn put_place(target: &mut [u8], at: usize, h: Head, p: usize, x: i64) -> usize
     requires { (at + length (term_bytes (layout h) p x) ≤ length target.old)
         × ((p < 256) × (in_range x ≡ true)) }

@@ -26,6 +26,7 @@ pub fn put_refusal(text: &mut Text<'_>, x: Refused)
     put_refused(text, u8::from(x.why).into(), x.at as u64)
 }
 
+// The word is promised here as bytes; the comparison prints it too and promises nothing.
 fn answer_word(w: Word) -> &'static str
     ensures { result.now ≡ word w }
 {
