@@ -15,7 +15,7 @@ use Rattle.bernstein.specs.Numbers
 use Rattle.bernstein.specs.Numbers.{Span, span, half_span, half_box}
 use Rattle.boxes.specs.declared.half.Box.{Box}
 use Rattle.boxes.specs.Claims.{BoxAllowed, ChildHalf}
-use Rattle.system.specs.Directions.{direction_at, between}
+use Rattle.system.specs.Directions.{direction_number, direction_at, between}
 use Rattle.boxes.specs.Boxes.{as_box, from_box, box_ok, Allowed, refused, half_in, half_of}
 use Rattle.system.proofs.Says.{Says, le_says, lt_says, and_says, each_says, says_as, and_left}
 
@@ -35,6 +35,18 @@ position_small c k r = lt_of_lt_of_le (k.position_high r) (pow_mono (k.cuts_high
 
 pub part_within : (b : Box) → box_ok b ≡ true → (r : Three.Direction) → ((as_box b ! r).cuts ≤ 10) × ((as_box b ! r).position < 1024)
 part_within b t r = let k = (box_says b).fact t in (k.cuts_high r, position_small (as_box b) k r)
+
+-- ---- which answer a half is, of a direction by its number
+pub at_number : (r : Three.Direction) → direction_at (direction_number r) ≡ r
+at_number first = refl
+at_number second = refl
+at_number third = refl
+
+pub half_in_direction : (h : Half) (b : Box) (r : Three.Direction) → box_ok b ≡ true → half_of h b (direction_number r) ≡ half_in h b r
+unfolding half_of
+half_in_direction h b first p = rw p refl
+half_in_direction h b second p = rw p refl
+half_in_direction h b third p = rw p refl
 
 -- ---- a child is bernstein's half of the box, and is allowed again
 child_of : (t u : Bool) (x y : Box) → cond t (cond u (Ok x) refused) refused ≡ Ok y → (t ≡ true) × (u ≡ true) × (x ≡ y)

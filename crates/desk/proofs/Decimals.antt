@@ -1,16 +1,18 @@
 -- The decimal digits of a number: the last one behind those of a tenth, how many there are, and that a number is printed so. Assumes nothing.
 use mathlib.Core.Path.{◌≡◌, refl, sym, ap, subst, ◌∙◌}
 use mathlib.Core.Bool.{Bool, true, false}
-use mathlib.Core.List.{List, [], ◌∷◌, ◌++◌}
+use mathlib.Core.List.{List, [], ◌∷◌, ◌++◌, append_assoc}
 use mathlib.Core.Logic.{◌⊎◌, inl, inr, ⊎_elim}
 use Prim.Native.Nat.{ℕ, zero, suc, ◌+◌, ◌-◌, ◌*◌, ◌/◌, ◌%◌, ◌^◌, ◌≤◌, ◌<◌}
 use native.Mathlib.Omega.{arith}
 use native.Mathlib.Nat.{pow-suc}
 use borrow.Author.Tests.{lt-ltb, le-ltb, ltb-true, ltb-false}
 use lib.Dec.{ltb}
-use lib.ListN.{length, get_or, length-append, get_or-append}
+use lib.ListN.{length, get_or, set, length-append, get_or-append}
 use Rattle.std.specs.Fmt.{decimal as printed}
 use Rattle.std.proofs.lemmas.Fmt.{decimal_from_appends, length-decimal-le_succ}
+use Rattle.file.specs.Bytes.{over}
+use Rattle.file.proofs.Putting.{put1, over_over, over_length}
 use Rattle.desk.specs.Text.{digit, digits, decimal, value, SaysBack, OnlyDigits, NoLeadingZero, AsFew}
 
 one_or_more : (n : ℕ) → (n < 10) ⊎ (10 ≤ n)
@@ -142,3 +144,46 @@ decimal_same n h =
     let short = length-decimal-le_succ n h in
     sym (decimal_from_appends digits (record { one = λ k m l. digits_one (suc k) m l; more = digits_more }) (suc n) n h (omega (arith, short)))
     ∙ digits_same (suc n) n n (omega arith) (omega arith)
+
+-- ---- two digits at a time
+abbrev pub pair : ℕ → List ℕ
+pair n = (48 + n / 10) ∷ (48 + n % 10) ∷ []
+
+pub decimal_two : (n : ℕ) → 10 ≤ n → n < 100 → decimal n ≡ pair n
+decimal_two n h l = decimal_more n h ∙ ap (λ (ds : List ℕ). ds ++ digit (n % 10)) (decimal_one (n / 10) (omega arith))
+
+pub decimal_pairs : (n : ℕ) → 100 ≤ n → decimal n ≡ decimal (n / 100) ++ pair (n % 100)
+decimal_pairs n h =
+    let q : n / 10 / 10 ≡ n / 100 = omega arith in
+    let d : n / 10 % 10 ≡ n % 100 / 10 = omega arith in
+    let e : n % 10 ≡ n % 100 % 10 = omega arith in
+    decimal_more n (omega arith)
+    ∙ ap (λ (ds : List ℕ). ds ++ digit (n % 10)) (decimal_more (n / 10) (omega arith))
+    ∙ append_assoc (decimal (n / 10 / 10)) (digit (n / 10 % 10)) (digit (n % 10))
+    ∙ rw (q, d, e) refl
+
+-- ---- put into a target
+module _ (t : List ℕ) (at n : ℕ) (fit : at + length (decimal n) ≤ length t) where
+  pub one_put : n < 10 → (at + 1 ≡ at + length (decimal n)) × (set t at (48 + n) ≡ over t at (decimal n))
+  one_put h = let e : decimal n ≡ digit n = decimal_one n h in
+      let l : length (decimal n) ≡ 1 = ap length e in
+      (omega arith, put1 t at (48 + n) (omega arith) ∙ ap (over t at) (sym e))
+
+  module _ (h : 100 ≤ n) where
+    pub pairs_length : length (decimal n) ≡ length (decimal (n / 100)) + 2
+    pairs_length = ap length (decimal_pairs n h) ∙ length-append (decimal (n / 100)) (pair (n % 100))
+
+    module _ (o : ℕ) (t' : List ℕ) (eo : o ≡ at + length (decimal (n / 100))) (et : t' ≡ over t at (decimal (n / 100))) where
+      same : length t' ≡ length t
+      same = ap length et ∙ over_length t at (decimal (n / 100)) (omega (arith, pairs_length))
+
+      pub last_fits : o + 2 ≤ length t'
+      last_fits = omega (arith, same, pairs_length)
+
+      pub last_put : (u : List ℕ) → u ≡ over t' o (pair (n % 100)) → (o + 2 ≡ at + length (decimal n)) × (u ≡ over t at (decimal n))
+      last_put u p = (
+        omega (arith, pairs_length),
+        p
+            ∙ rw (et, eo) (over_over t at (decimal (n / 100)) (pair (n % 100)) (omega (arith, pairs_length)))
+            ∙ ap (over t at) (sym (decimal_pairs n h)),
+      )

@@ -1,4 +1,5 @@
 pub mod Decimals
+pub mod Stepping
 pub mod Putting
 pub mod Sizes
 pub mod Lists

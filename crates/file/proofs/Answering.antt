@@ -3,13 +3,13 @@ use Rattle.std.specs.Prelude.{Ok, Err}
 use mathlib.Core.Path.{◌≡◌, refl}
 use mathlib.Core.Bool.{true}
 use mathlib.Core.List.{List, ◌++◌}
-use Prim.Native.Nat.{ℕ, ◌≤◌}
+use Prim.Native.Nat.{ℕ, ◌≤◌, ◌<◌}
 use native.Mathlib.Omega.{arith}
-use borrow.Author.Tests.{le-leb}
+use borrow.Author.Tests.{le-leb, lt-leb}
 use lib.IntN.{ℤ}
 use lib.ListN.{length, drop}
 use Rattle.system.specs.Heads.{places, head_ok}
-use Rattle.system.specs.declared.refusal.Refusal.TheVariants.{OutOfLimits}
+use Rattle.system.specs.declared.refusal.Refusal.TheVariants.{OutOfLimits, TooShort}
 use Rattle.system.specs.declared.refusal.Refused.{Refused}
 use Rattle.system.specs.Chain.{test}
 use Rattle.file.specs.Layout.{layout}
@@ -38,6 +38,10 @@ module _ (s : List ℕ) (out : List ℤ) where
   pub reads_stop : (x : Refused) → checked s ≡ Err x → reads s out ≡ (Err x, out)
   unfolding reads
   reads_stop x e = rw e refl
+
+  pub reads_short : checked s ≡ Ok tt → length out < places (head_of s) → reads s out ≡ (Err (record { why = TooShort; at = 0 }), out)
+  unfolding reads
+  reads_short e l = rw (e, lt-leb (places (head_of s)) (length out) l) refl
 
   pub reads_fine : checked s ≡ Ok tt → places (head_of s) ≤ length out → reads s out ≡ (Ok (head_of s), numbers s ++ drop (places (head_of s)) out)
   unfolding reads

@@ -1,10 +1,11 @@
 -- Bytes put into a lent target: `over`, stores one after the other, and a run of puts. Assumes nothing.
 use mathlib.Core.Path.{◌≡◌, refl, sym, ap, ◌∙◌}
-use mathlib.Core.List.{List, [], ◌++◌, append_assoc, append-nil}
+use mathlib.Core.List.{List, [], ◌∷◌, ◌++◌, append_assoc, append-nil}
 use Prim.Native.Nat.{ℕ, ◌+◌, ◌≤◌}
 use native.Mathlib.Omega.{arith}
-use lib.ListN.{length, take, drop, length-drop, length-append, take-append-drop}
-use lib.Seq.{take_at, drop_at, drop-drop, length-take-le}
+use native.Mathlib.Numerals.{add-one, add-two, add-three, add-four, add_five, add_six}
+use lib.ListN.{length, take, drop, set, length-drop, length-append, take-append-drop}
+use lib.Seq.{sets-eq, take_at, drop_at, drop-drop, length-take-le}
 use Rattle.file.specs.Bytes.{over}
 
 pub over_length : (t : List ℕ) (at : ℕ) (bs : List ℕ) → at + length bs ≤ length t → length (over t at bs) ≡ length t
@@ -30,6 +31,29 @@ over_over t at ds bs h =
     (append_assoc (take at t) ds (bs ++ drop (at + (length ds + length bs)) t)))
 
 -- ---- stores
+pub put1 : (t : List ℕ) (at b0 : ℕ) → at + 1 ≤ length t → set t at b0 ≡ over t at (b0 ∷ [])
+unfolding over
+put1 t at b0 h = sets-eq (b0 ∷ []) t at h ∙ append_assoc (take at t) (b0 ∷ []) (drop (at + 1) t)
+
+pub put2 : (t : List ℕ) (at b0 b1 : ℕ) → at + 2 ≤ length t → set (set t at b0) (at + 1) b1 ≡ over t at (b0 ∷ b1 ∷ [])
+unfolding over
+put2 t at b0 b1 h = rw (add-one at) (sets-eq (b0 ∷ b1 ∷ []) t at h ∙ append_assoc (take at t) (b0 ∷ b1 ∷ []) (drop (at + 2) t))
+
+pub put4 : (t : List ℕ) (at b0 b1 b2 b3 : ℕ) → at + 4 ≤ length t → set (set (set (set t at b0) (at + 1) b1) (at + 2) b2) (at + 3) b3 ≡ over t at (b0 ∷ b1 ∷ b2 ∷ b3 ∷ [])
+unfolding over
+put4 t at b0 b1 b2 b3 h = rw (add-one at, add-two at, add-three at) (sets-eq (b0 ∷ b1 ∷ b2 ∷ b3 ∷ []) t at h ∙ append_assoc (take at t) (b0 ∷ b1 ∷ b2 ∷ b3 ∷ []) (drop (at + 4) t))
+
+pub put7 : (t : List ℕ) (at b0 b1 b2 b3 b4 b5 b6 : ℕ) → at + 7 ≤ length t
+    → set (set (set (set (set (set (set t at b0) (at + 1) b1) (at + 2) b2) (at + 3) b3) (at + 4) b4) (at + 5) b5) (at + 6) b6 ≡ over t at (b0 ∷ b1 ∷ b2 ∷ b3 ∷ b4 ∷ b5 ∷ b6 ∷ [])
+unfolding over
+put7 t at b0 b1 b2 b3 b4 b5 b6 h =
+    rw (add-one at, add-two at, add-three at, add-four at, add_five at, add_six at)
+    (sets-eq (b0 ∷ b1 ∷ b2 ∷ b3 ∷ b4 ∷ b5 ∷ b6 ∷ []) t at h ∙ append_assoc (take at t) (b0 ∷ b1 ∷ b2 ∷ b3 ∷ b4 ∷ b5 ∷ b6 ∷ []) (drop (at + 7) t))
+
+pub put_front : (t bs : List ℕ) → length bs ≤ length t → lib.Seq.sets t 0 bs ≡ over t 0 bs
+unfolding over
+put_front t bs h = let z : 0 + length bs ≤ length t = omega arith in sets-eq bs t 0 z
+
 -- ---- a run of puts: of W, from at on, what is done and what is still to do
 pub record Putting (t0 : List ℕ) (at : ℕ) (W : List ℕ) (o : ℕ) (t todo : List ℕ) : Type 0 where
   pub done : List ℕ

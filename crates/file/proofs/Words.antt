@@ -13,7 +13,7 @@ use mir.Facts.{to_z_pos, to_z-neg, of_z-to_z}
 use Rattle.std.specs.Int.{to_le_bytes}
 use Rattle.whole.specs.Size.{Below}
 use Rattle.whole.proofs.Parts.{by_lt}
-use Rattle.file.specs.Bytes.{byte, Bytes, AnyBytes, word16, word32, signed32, unsigned32, four_bytes, bytes32}
+use Rattle.file.specs.Bytes.{byte, Bytes, AnyBytes, word16, word32, signed32, unsigned32, four_bytes, bytes16, bytes32}
 
 -- ---- past the end stands a 0
 byte_below : (s : List ℕ) → ((i : ℕ) → i < length s → byte s i < 256) → (i : ℕ) → byte s i < 256
@@ -27,6 +27,12 @@ any_bytes s h = record { at = byte_below s h }
 -- ---- two bytes
 pub word16_bytes : (n : ℕ) → n % 256 + 256 * (n / 256) ≡ n
 word16_bytes n = omega arith
+
+pub bytes_word16 : (a b : ℕ) → a < 256 → bytes16 (a + 256 * b) ≡ a ∷ b ∷ []
+bytes_word16 a b h =
+    let e : (a + 256 * b) % 256 ≡ a = omega arith in
+    let f : (a + 256 * b) / 256 ≡ b = omega arith in
+    rw (e, f) refl
 
 -- a number below 256 in two bytes
 pub word16_small : (s : List ℕ) (i n : ℕ) → Bytes s → word16 s i ≡ n → n < 256 → (byte s i ≡ n) × (byte s (i + 1) ≡ 0)

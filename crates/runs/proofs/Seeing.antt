@@ -15,7 +15,7 @@ use Rattle.waiting.specs.declared.cursor.Cursor.{Cursor}
 use Rattle.waiting.specs.declared.state.State.{State}
 use Rattle.waiting.specs.Cells.{boxed}
 use Rattle.waiting.specs.States.{judged}
-use Rattle.waiting.specs.Steps.{Ready, put_in, begun, due, next, seen}
+use Rattle.waiting.specs.Steps.{Ready, put_in, begun, halted, due, next, seen}
 use Rattle.waiting.proofs.Keeping.{judged_ready}
 use Rattle.runs.specs.declared.visits.Answer.{Answer}
 use Rattle.runs.specs.Lists.{Listing}
@@ -34,6 +34,10 @@ module _ {L : Type 0} {records : L → List Kept} {with_records : L → List Kep
 
   pub refused : {x : Refused} → judged h s st (records xs) ≡ Err x → Promised (Err x) xs st
   refused e = rw (visits e) (refl, (sym (laws.unchanged xs), refl))
+
+  -- a refused visit ends as a refused run does: with its cursor halted
+  pub halts : {x : Refused} → judged h s st (records xs) ≡ Err x → (visit_of h s (records xs) st).end.cursor ≡ halted (begun s 1 (length (records xs))) Word.Spent
+  halts e = rw (visits e) refl
 
   module _ {n : ℕ} {c : Cursor} (r : n ≡ length (records xs)) (b : c ≡ begun s 1 n) (v : judged h s st (records xs) ≡ Ok tt) where
     begins : c ≡ begun s 1 (length (records xs))

@@ -15,6 +15,7 @@ use Rattle.waiting.specs.Steps.{begun, due, next, seen}
 use Rattle.waiting.specs.Runs.{Way, way, turned}
 use Rattle.runs.specs.declared.visits.Answer.{Answer}
 use Rattle.runs.specs.declared.visits.Answer.TheVariants.{Saw, Stopped}
+use Rattle.runs.specs.Runs.{opened}
 
 -- a step, with the visit that it made
 abbrev pub stepped : Head → List ℤ → Cursor → Made
@@ -32,7 +33,7 @@ pub record One : Type 0 where
 -- from where a call begins, by what is judged
 abbrev pub one : Head → List Kept → List ℤ → Cursor → Result ⊤ Refused → One
 one h list st c (Ok u) = record { answer = Ok (told (stepped h st c).cursor.state (stepped h st c).visit); end = turned (boxed h) (way list st c) }
-one h list st c (Err x) = record { answer = Err x; end = way list st c }
+one h list st c (Err x) = record { answer = Err x; end = way list st (opened (Err x) c) }
 
 abbrev pub visit_of : Head → State → List Kept → List ℤ → One
 visit_of h s list st = one h list st (begun s 1 (length list)) (judged h s st list)
