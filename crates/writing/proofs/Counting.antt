@@ -2,10 +2,12 @@
 use mathlib.Core.Path.{◌≡◌, refl, ap}
 use mathlib.Core.Bool.{Bool, true, false, cond, not}
 use mathlib.Core.List.{List, [], ◌∷◌, ◌++◌}
-use Prim.Native.Nat.{ℕ, suc, ◌+◌, ◌*◌, ◌≤◌}
+use Prim.Native.Nat.{ℕ, suc, ◌+◌, ◌*◌, ◌≤◌, ◌<◌}
 use native.Mathlib.Omega.{arith}
-use lib.IntN.{ℤ}
-use lib.ListN.{length, take, drop, take-append-drop}
+use native.Mathlib.Numerals.{add-one}
+use lib.IntN.{ℤ, pos}
+use lib.ListN.{length, get_or, take, drop, drop_of_length-le, take-append-drop}
+use lib.Seq.{drop-cons}
 use Rattle.std.specs.List.{filter}
 use Rattle.file.specs.Layout.{Layout}
 use Rattle.file.specs.Terms.{in_range, is_zero}
@@ -41,6 +43,24 @@ count_append (x ∷ xs) ys = go (is_zero x) (count_append xs ys)
     go : (b : Bool) → count (xs ++ ys) ≡ count xs + count ys → unless b (count (xs ++ ys)) ≡ unless b (count xs) + count ys
     go true e = e
     go false e = omega arith
+
+-- one after the other: those before place i are counted in n, and those from there on are still to be counted
+module _ (xs : List ℤ) (i : ℕ) where
+  count_place : i < length xs → count (drop i xs) ≡ unless (is_zero (get_or xs i (pos 0))) (count (drop (i + 1) xs))
+  unfolding count
+  count_place h = rw (drop-cons xs i (pos 0) h, add-one i) refl
+
+  pub next_counted : (n : ℕ) → i < length xs → n + count (drop i xs) ≡ count xs
+      → unless (is_zero (get_or xs i (pos 0))) n + count (drop (i + 1) xs) ≡ count xs
+  next_counted n h e = go (is_zero (get_or xs i (pos 0))) (rw (count_place h) at e)
+    where
+      go : (b : Bool) → n + unless b (count (drop (i + 1) xs)) ≡ count xs → unless b n + count (drop (i + 1) xs) ≡ count xs
+      go true e = e
+      go false e = omega arith
+
+  pub all_counted : (n : ℕ) → length xs ≤ i → n + count (drop i xs) ≡ count xs → n ≡ count xs
+  unfolding count
+  all_counted n h e = let d : n + count [] ≡ count xs = rw (drop_of_length-le xs h) at e in omega arith
 
 -- each takes seven bytes
 term_length : (b : Bool) (n : ℕ) (a0 a1 a2 a3 a4 a5 a6 : ℕ) (tail : List ℕ) → length tail ≡ 7 * n

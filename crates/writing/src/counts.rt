@@ -5,10 +5,17 @@ ghost use Rattle.writing.specs.Writing.{all_in_range};
 
 use file::terms::{in_range, is_zero};
 
+// A sum of ones takes several numbers at a time, where `filter` and `count` go one by one.
 pub fn count(xs: &[i64]) -> usize
     ensures { (result ≡ count xs.now) × (result ≤ length xs.now) }
 {
-    xs.iter().filter(|x| !is_zero(**x)).count()
+    let mut n = 0;
+    for x in xs {
+        if !is_zero(*x) {
+            n += 1;
+        }
+    }
+    n
 }
 
 // A start tests the same range, by the rules of a slot: one call each, and files know nothing of slots.
