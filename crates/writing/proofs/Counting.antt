@@ -26,7 +26,8 @@ unfolding count
 count_filter [] = refl
 count_filter (x ∷ xs) = go (is_zero x) (count_filter xs)
   where
-    go : (b : Bool) → length (filter (λ x. not (is_zero x)) xs) ≡ count xs → length (cond (not b) (x ∷ filter (λ x. not (is_zero x)) xs) (filter (λ x. not (is_zero x)) xs)) ≡ unless b (count xs)
+    go : (b : Bool) → length (filter (λ x. not (is_zero x)) xs) ≡ count xs
+        → length (cond (not b) (x ∷ filter (λ x. not (is_zero x)) xs) (filter (λ x. not (is_zero x)) xs)) ≡ unless b (count xs)
     go true e = e
     go false e = ap suc e
 
@@ -71,7 +72,8 @@ term_length false n a0 a1 a2 a3 a4 a5 a6 tail e = omega arith
 pub terms_length : (L : Layout) (p : ℕ) (xs : List ℤ) → length (terms_bytes L p xs) ≡ 7 * count xs
 unfolding terms_bytes count
 terms_length L p [] = refl
-terms_length L p (x ∷ xs) = term_length (is_zero x) (count xs) (L.index p).x₁ (L.index p).x₂ (L.index p).x₃ _ _ _ _ (terms_bytes L (p + 1) xs) (terms_length L (p + 1) xs)
+terms_length L p (x ∷ xs) =
+    term_length (is_zero x) (count xs) (L.index p).x₁ (L.index p).x₂ (L.index p).x₃ _ _ _ _ (terms_bytes L (p + 1) xs) (terms_length L (p + 1) xs)
 
 -- ---- whether all are in range
 pub all_parts : (xs ys : List ℤ) → all_in_range (xs ++ ys) ≡ true → (all_in_range xs ≡ true) × (all_in_range ys ≡ true)
